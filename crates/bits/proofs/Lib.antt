@@ -1,0 +1,10 @@
+pub mod Both
+pub mod Build
+pub mod Complement
+pub mod Fill
+pub mod Lists
+pub mod Numbers
+pub mod Parts
+pub mod Splice
+pub mod Sum
+pub mod Test

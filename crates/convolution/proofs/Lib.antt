@@ -1,0 +1,11 @@
+pub mod AsPrinted
+pub mod Coded
+pub mod Corrected
+pub mod Decoded
+pub mod Distance
+pub mod InOrder
+pub mod Order
+pub mod Register
+pub mod Sending
+pub mod Survivor
+pub mod Vectors

@@ -1,0 +1,4 @@
+pub mod Agreement
+pub mod Grid
+pub mod Interleaver
+pub mod Subframe

@@ -1,0 +1,4 @@
+pub mod Frame
+pub mod Grid
+pub mod Interleaver
+pub mod Sync

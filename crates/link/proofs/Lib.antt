@@ -1,0 +1,3 @@
+pub mod Outcomes
+pub mod Recovered
+pub mod Taken
