@@ -1,0 +1,10 @@
+pub mod Bodies
+pub mod Faults
+pub mod Halves
+pub mod Held
+pub mod Laying
+pub mod Putting
+pub mod Rules
+pub mod Signs
+pub mod Turns
+pub mod Twos

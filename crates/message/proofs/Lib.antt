@@ -1,0 +1,9 @@
+pub mod Choice
+pub mod Filling
+pub mod Kept
+pub mod Laws
+pub mod Laying
+pub mod Parsing
+pub mod Reading
+pub mod Return
+pub mod Sorting

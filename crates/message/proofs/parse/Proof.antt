@@ -1,0 +1,64 @@
+-- `parse` meets its contract: the two IDs are numbers 4 and 6 of the layout of a message's bits. Assumes nothing.
+use mathlib.Core.Path.{_≡_, ap, ap₂, _∙_}
+use mathlib.Core.List.{List}
+use Prim.Native.Nat.{ℕ}
+use Rattle.bits.specs.Lists.{at}
+use Rattle.fields.specs.declared.Layout.{Layout}
+use Rattle.fields.specs.Table.{rowsOf, head, messageId}
+use Rattle.fields.specs.Fields.{valueAt, values}
+use Rattle.fields.specs.Patterns.{patterns}
+use Rattle.message.specs.Numbers.{take}
+use Rattle.message.specs.Records as records
+use Rattle.message.specs.Records.{subframeId, layoutBy, entryBy, fromBody}
+use Rattle.message.proofs.Parsing.{entry}
+use borrow.Author.Needs.{needs}
+use Rattle.message.proofs.parse.Statement.{statement}
+use Rattle.message.proofs.parse.Tie as tie
+
+read-requires : tie.Need-read-requires
+read-requires c κs = search needs
+
+array-read-subframe : tie.Need-array-read-subframe
+array-read-subframe c = search needs
+
+array-read-id : tie.Need-array-read-id
+array-read-id c = search needs
+
+layout-by-requires : tie.Need-layout-by-requires
+layout-by-requires c κs = search needs
+
+read-requires-2 : tie.Need-read-requires-2
+read-requires-2 c κs = search needs
+
+raw-of-requires : tie.Need-raw-of-requires
+raw-of-requires c κs = search needs
+
+entry-requires : tie.Need-entry-requires
+entry-requires c κs = search needs
+
+returns : tie.Need-returns
+unfolding fromBody patterns valueAt head messageId
+returns c =
+    let first = c .before .before .before .before in
+    let body = first .before .args .body .now in
+    let s : at (first .read .result) 4 ≡ subframeId body = ap (λ (l : List ℕ). at l 4) (first .read .ensures) in
+    let m : at (first .read .result) 6 ≡ records.messageId body = ap (λ (l : List ℕ). at l 6) (first .read .ensures) in
+    let s′ = at (first .read .result) 4 in
+    let m′ = at (first .read .result) 6 in
+    let a = c .before .before .read2 .ensures ∙ ap (λ (l : Layout). patterns (values (rowsOf l) body)) (c .before .before .before .layout-by .ensures) in
+    c .entry .ensures
+    ∙ entry body _ _ (c .before .raw-of .ensures) s′ m′ a
+    ∙ ap₂ (λ (s m : ℕ). entryBy s m (take (values (rowsOf (layoutBy s m)) body))) s m
+
+pub parse-spec : {M : Type 1} → statement M
+parse-spec =
+    tie.close
+    (tie.spec
+    read-requires
+    array-read-subframe
+    array-read-id
+    layout-by-requires
+    read-requires-2
+    raw-of-requires
+    entry-requires
+    returns)

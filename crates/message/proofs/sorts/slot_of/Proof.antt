@@ -1,0 +1,13 @@
+-- `sorts::slot_of` meets its contract. Assumes nothing.
+use borrow.Author.Tests.{eq-eqb, ne-eqb}
+use Rattle.message.proofs.sorts.slot_of.Statement.{statement}
+use Rattle.message.proofs.sorts.slot_of.Tie as tie
+
+returns : tie.Need-returns
+returns c = simp (eq-eqb _ _ (c .if1 .taken))
+
+returns-2 : tie.Need-returns-2
+returns-2 c = simp (ne-eqb _ _ (c .if1 .left))
+
+pub slot-of-spec : {M : Type 1} → statement M
+slot-of-spec = tie.close (tie.spec returns returns-2)
