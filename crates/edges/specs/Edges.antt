@@ -1,0 +1,42 @@
+-- The values at the edges (01, "Values at the edges", marked P), as one list: what the definitions give, and what the document prints. Each row is
+-- a list of integers. Assumes nothing.
+use mathlib.Core.List.{List, [], _∷_, _++_, map}
+use Prim.Native.Nat.{ℕ}
+use lib.IntN.{ℤ, pos, negsuc}
+use lib.ListN.{replicate}
+use Rattle.convolution.specs.Code.{codedForm}
+use Rattle.crc24q.specs.Check.{checkOf}
+use Rattle.fields.specs.Fields.{twos}
+use Rattle.framing.specs.Interleaver.{place}
+use Rattle.weektime.specs.Time.{beganOf, beganNumber, beganSecond}
+
+-- n zeros, and then the tail
+abbrev pub lone : ℕ → List ℕ → List ℕ
+lone n tail = replicate n 0 ++ tail
+
+-- the second at which a subframe began, and the refusal
+abbrev pub second : ℕ → ℤ
+second towc = pos (beganSecond (beganOf (record { 0 = towc })))
+
+abbrev pub refusal : ℕ → ℤ
+refusal towc = pos (beganNumber (beganOf (record { 0 = towc })))
+
+unfoldable pub given : List (List ℤ)
+given =
+    map pos (codedForm (1 ∷ [])) ∷
+    map (λ body. pos (checkOf body)) (replicate 262 0 ∷ lone 261 (1 ∷ []) ∷ lone 260 (1 ∷ 0 ∷ []) ∷ []) ∷
+    map (λ i. pos (place i)) (0 ∷ 1 ∷ 7 ∷ 8 ∷ 583 ∷ []) ∷
+    map second (1 ∷ 24843 ∷ 50400 ∷ []) ∷
+    map refusal (0 ∷ 50401 ∷ []) ∷
+    map (twos 22) (0x200000 ∷ 0x1FFFFF ∷ 0x3FFFFF ∷ []) ∷
+    []
+
+unfoldable pub printed : List (List ℤ)
+printed =
+    map pos (1 ∷ 1 ∷ 1 ∷ 0 ∷ 1 ∷ 1 ∷ 1 ∷ 1 ∷ 0 ∷ 0 ∷ 0 ∷ 1 ∷ 1 ∷ 1 ∷ []) ∷
+    map pos (0 ∷ 0x864CFB ∷ 0x8AD50D ∷ []) ∷
+    map pos (0 ∷ 73 ∷ 511 ∷ 1 ∷ 583 ∷ []) ∷
+    map pos (0 ∷ 298104 ∷ 604788 ∷ []) ∷
+    map pos (7 ∷ 7 ∷ []) ∷
+    (negsuc 2097151 ∷ pos 2097151 ∷ negsuc 0 ∷ []) ∷
+    []

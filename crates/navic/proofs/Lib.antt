@@ -1,0 +1,7 @@
+pub mod Answers
+pub mod Demands
+pub mod Gathering
+pub mod Instance
+pub mod Ordered
+pub mod Packing
+pub mod Theorems

@@ -1,0 +1,4 @@
+pub mod Family
+pub mod Input
+pub mod Navic
+pub mod Refusals
