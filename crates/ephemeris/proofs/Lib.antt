@@ -1,0 +1,12 @@
+pub mod Alone
+pub mod Biased
+pub mod Cases
+pub mod Exact
+pub mod Fitting
+pub mod Hazard
+pub mod Idling
+pub mod Joining
+pub mod Laws
+pub mod Numbers
+pub mod Rows
+pub mod Scaling

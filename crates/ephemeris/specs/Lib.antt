@@ -1,0 +1,4 @@
+pub mod Exactly
+pub mod Meaning
+pub mod Pairing
+pub mod Scales

@@ -1,0 +1,3 @@
+pub mod Parts
+pub mod Search
+pub mod Steps
