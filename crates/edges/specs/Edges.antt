@@ -1,11 +1,16 @@
 -- The values at the edges (01, "Values at the edges", marked P), as one list: what the definitions give, and what the document prints. Each row is
 -- a list of integers. Assumes nothing.
 use mathlib.Core.List.{List, [], _∷_, _++_, map}
-use Prim.Native.Nat.{ℕ}
+use Prim.Native.Nat.{ℕ, _-_}
+use mathlib.Core.Bool.{true, false}
+use lib.Ieee.{Float, nan, inf, fin}
 use lib.IntN.{ℤ, pos, negsuc}
 use lib.ListN.{replicate}
 use Rattle.convolution.specs.Code.{codedForm}
 use Rattle.crc24q.specs.Check.{checkOf}
+use Rattle.ephemeris.specs.Exactly.{exactly}
+use Rattle.ephemeris.specs.Pairing.{scaleAt}
+use Rattle.fields.specs.declared.Layout.the-variants.{Subframe1}
 use Rattle.fields.specs.Fields.{twos}
 use Rattle.framing.specs.Interleaver.{place}
 use Rattle.weektime.specs.Time.{beganOf, beganNumber, beganSecond}
@@ -13,6 +18,13 @@ use Rattle.weektime.specs.Time.{beganOf, beganNumber, beganSecond}
 -- n zeros, and then the tail
 abbrev pub lone : ℕ → List ℕ → List ℕ
 lone n tail = replicate n 0 ++ tail
+
+-- a number as its significand with its sign, and its exponent; nothing for what is no number
+abbrev pub parts : Float → List ℤ
+parts nan = []
+parts (inf s) = []
+parts (fin false m e) = pos m ∷ e ∷ []
+parts (fin true m e) = negsuc (m - 1) ∷ e ∷ []
 
 -- the second at which a subframe began, and the refusal
 abbrev pub second : ℕ → ℤ
@@ -29,6 +41,7 @@ given =
     map second (1 ∷ 24843 ∷ 50400 ∷ []) ∷
     map refusal (0 ∷ 50401 ∷ []) ∷
     map (twos 22) (0x200000 ∷ 0x1FFFFF ∷ 0x3FFFFF ∷ []) ∷
+    parts (exactly (twos 22 0x3FFFFF) (scaleAt Subframe1 7)) ∷
     []
 
 unfoldable pub printed : List (List ℤ)
@@ -39,4 +52,5 @@ printed =
     map pos (0 ∷ 298104 ∷ 604788 ∷ []) ∷
     map pos (7 ∷ 7 ∷ []) ∷
     (negsuc 2097151 ∷ pos 2097151 ∷ negsuc 0 ∷ []) ∷
+    (negsuc 0 ∷ negsuc 30 ∷ []) ∷
     []
