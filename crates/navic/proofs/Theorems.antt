@@ -25,7 +25,8 @@ use Rattle.navic.specs.declared.Written.the-variants as written
 use Rattle.navic.specs.Refusals.{Given}
 use Rattle.navic.specs.Family as any
 use Rattle.navic.specs.Family.{readerConditions, writerConditions}
-use Rattle.navic.specs.Navic.{family, quality, answer, readOf, numberIn, qualityIn, writeAnswer, writtenBy, writtenNumber, entryOf, entryRefusal, entryBeside, lentAfterWrite}
+use Rattle.navic.specs.Navic.{family, quality, answer, readOf, numberIn, isDone, qualityIn, lineOf, lentAfterRead, writeAnswer, writtenBy, writtenNumber, writtenBeside, entryOf, entryRefusal, entryBeside, lentAfterWrite}
+use Rattle.navic.proofs.Answers.{read-is}
 use Rattle.navic.proofs.Demands as demands
 use Rattle.navic.proofs.Instance.{lawful}
 use Rattle.navic.proofs.Ordered.{reader-ordered, writer-ordered}
@@ -147,3 +148,38 @@ module _ (r : Record) (b : Beside) (lent : List ℕ) where
   pub lent-kept : (writtenNumber (writeAnswer r b (length lent)) ≡ 0 → ⊥) → lentAfterWrite r b lent ≡ lent
   unfolding lentAfterWrite any.writeInto
   lent-kept h = rw (ne-eqb _ 0 (λ z. h (number-written r b (length lent) ∙ z))) refl
+
+  -- the number beside the writer's refusal: beside 8 the first bit of the lowest field at fault, or 293; beside all else 0
+  pub write-beside : writtenBeside (writeAnswer r b (length lent)) ≡ pick (eqb (writtenNumber (writeAnswer r b (length lent))) 8) (faultOf r b) 0
+  unfolding writeAnswer any.writingOf entryRefusal entryBeside
+  write-beside = go (leb 600 (length lent)) (idRefused r) (towcRefused (towcIn r)) (eqb (faultOf r b) 0)
+    where
+      go : (room i l f : Bool)
+          → let n = pick room (pick i 9 (pick l 7 (pick {A = ℕ} f 0 8))) 2 in
+          let k = pick (eqb (pick i 9 (pick l 7 (pick {A = ℕ} f 0 8))) 8) (faultOf r b) 0 in
+          writtenBeside (writtenBy n k) ≡ pick (eqb (writtenNumber (writtenBy n k)) 8) (faultOf r b) 0
+      go false i l f = refl
+      go true true l f = refl
+      go true false true f = refl
+      go true false false true = refl
+      go true false false false = refl
+
+module _ (s lent : List ℕ) where
+  -- done, the reader puts bits 1 to 286 of the nearest word into the first 36 bytes; refused, it writes nothing
+  pub lent-read : isDone (answer s (length lent) .reading) ≡ true → lentAfterRead s lent ≡ any.packed (receiveOf 1 s .word) ++ drop 36 lent
+  lent-read h = sym (read-is s lent (answer s (length lent)) true (receiveOf 1 s .word) (any.packed (receiveOf 1 s .word) ++ drop 36 lent) refl (sym h) refl refl .1)
+
+  pub lent-unread : isDone (answer s (length lent) .reading) ≡ false → lentAfterRead s lent ≡ lent
+  lent-unread h = sym (read-is s lent (answer s (length lent)) false (receiveOf 1 s .word) lent refl (sym h) refl refl .1)
+
+-- the program's line says the answer's number, count and polarity
+pub line-says : (q : Reading) → (lineOf q .refusal ≡ numberIn q) × (lineOf q .corrected ≡ qualityIn q .corrected) × (lineOf q .polarity ≡ pick (qualityIn q .«turned_over») 1 0)
+line-says (reading.Done r q) = (refl, refl, refl)
+line-says reading.Length = (refl, refl, refl)
+line-says reading.Room = (refl, refl, refl)
+line-says reading.BadSymbol = (refl, refl, refl)
+line-says reading.NoSync = (refl, refl, refl)
+line-says reading.NoWord = (refl, refl, refl)
+line-says (reading.Idle q) = (refl, refl, refl)
+line-says (reading.BadCheck q) = (refl, refl, refl)
+line-says (reading.BadTime q) = (refl, refl, refl)
