@@ -18,6 +18,7 @@ use message::Subframe2;
 
 // The fields of both subframes from bit 31 to bit 260 except the ten reserved bits, each exactly its raw number times the scale of its row; angles
 // in semi-circles.
+#[repr(C)]
 pub struct Ephemeris {
     pub wn: f64,
     pub af0: f64,
@@ -48,6 +49,7 @@ pub struct Ephemeris {
 }
 
 // Refusal 0 or 11; +0 throughout where refused.
+#[repr(C)]
 pub struct Paired {
     pub refusal: u8,
     pub ephemeris: Ephemeris,
@@ -211,8 +213,8 @@ fn no_ephemeris() -> Ephemeris
     }
 }
 
-// Not a pair.
-fn refused() -> Paired
+// What is answered where there is no pair.
+pub fn refused() -> Paired
     ensures { λ r. ⌜ r ≡ answer none ⌝ }
 {
     Paired {

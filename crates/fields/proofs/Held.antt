@@ -21,11 +21,11 @@ use Rattle.fields.proofs.Bodies.{AllHold, no-fault}
 use Rattle.fields.proofs.Halves.{half-small, whole-small}
 use Rattle.fields.proofs.Rules.{Tiles, tiled}
 
--- z is a number that the code's pattern of a signed or an unsigned field carries
+-- z is a number that the code's pattern of a signed or an unsigned field carries; below 0 it is outside the unsigned one, and its pattern too
 abbrev pub Carried : Bool → ℤ → Type 0
 Carried true z = mag z < 2 ^ 63
 Carried false (pos n) = n < 2 ^ 64
-Carried false (negsuc n) = ⊥
+Carried false (negsuc n) = n < 2 ^ 63
 
 abbrev pub Held : Row → ℤ → Type 0
 Held r z = Carried (signed r) z
@@ -52,13 +52,17 @@ pub all-held : (l : Layout) (zs : List ℤ) → faultIn (rowsOf l) zs ≡ 0 → 
 all-held l zs e = fit-held 0 (rowsOf l) zs (tiled l) (no-fault 0 (rowsOf l) zs (tiled l) e)
 
 -- ---- one field
+below-carried : (s : Bool) (n : ℕ) → Carried s (negsuc n) → n < 2 ^ 63
+below-carried true n h = h
+below-carried false n h = h
+
 pattern-bits : (s : Bool) (w : ℕ) (z : ℤ) → w ≤ 63 → Carried s z → bitsOf w (pattern z) ≡ fieldBits w z
 unfolding fieldBits
 pattern-bits s w (pos n) m h = refl
-pattern-bits true w (negsuc n) m h =
-    let e : 2 ^ 64 - suc n ≡ 2 ^ 64 - 1 - n = omega arith in
-    ap (bitsOf w) e ∙ bits-complement 64 w n (omega arith) (omega arith)
-pattern-bits false w (negsuc n) m h = absurd h
+pattern-bits s w (negsuc n) m h =
+    let k = below-carried s n h in
+    let e : 2 ^ 64 - suc n ≡ 2 ^ 64 - 1 - n = omega (arith, k) in
+    ap (bitsOf w) e ∙ bits-complement 64 w n (omega arith) (omega (arith, k))
 
 signed-fits : (w : ℕ) (z : ℤ) → w ≤ 63 → mag z < 2 ^ 63 → inSigned w (pattern z) ≡ ltb (mag z) (2 ^ (w - 1))
 signed-fits w (pos n) m h =
@@ -84,7 +88,7 @@ pattern-fits r z m h = go (signed r) z h
     go : (s : Bool) (z : ℤ) → Carried s z → pick s (inSigned (width r) (pattern z)) (ltb (pattern z) (2 ^ width r)) ≡ pick s (ltb (mag z) (2 ^ (width r - 1))) (inUnsigned (width r) z)
     go true z k = signed-fits (width r) z m k
     go false (pos n) k = refl
-    go false (negsuc n) k = absurd k
+    go false (negsuc n) k = le-ltb (2 ^ 64 - suc n) (2 ^ width r) (omega (arith, whole-small (width r) m))
 
 -- ---- all fields
 -- the patterns of zs, and any number of zeros behind them

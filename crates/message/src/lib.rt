@@ -1,7 +1,8 @@
 // The typed records of the message, and the way between a record and a body of 262 bits.
 ghost use mathlib.Core.Path.{_≡_};
 ghost use Rattle.message.specs.Numbers.{slotId};
-ghost use Rattle.message.specs.Records.{fromBody, toBody, faultOf, idRefused, idTaken, headIn, idOf, subframeOf, messageIdOf, layoutOf};
+ghost use Rattle.message.specs.Records.{fromBody, toBody, faultOf, idRefused, idTaken, headIn, idOf, subframeOf, messageIdOf, layoutOf, layoutBy, messageLayout, numbersOf};
+ghost use Rattle.fields.specs.Patterns.{patterns};
 use fields::Layout;
 use weektime::Towc;
 use weektime::Week;
@@ -211,6 +212,32 @@ pub fn layout(record: Record) -> Layout
     }
 }
 
+// The layout of a body with these IDs.
+pub fn layout_by(subframe: u64, id: u64) -> Layout
+    ensures { λ r. ⌜ r ≡ layoutBy subframe id ⌝ }
+{
+    if subframe == 0 {
+        return Layout::Subframe1;
+    }
+    if subframe == 1 {
+        return Layout::Subframe2;
+    }
+    message_layout(id)
+}
+
+fn message_layout(id: u64) -> Layout
+    ensures { λ r. ⌜ r ≡ messageLayout id ⌝ }
+{
+    match id {
+        5 => Layout::IonoGrid,
+        7 => Layout::Almanac,
+        9 => Layout::TimeOffsets,
+        11 => Layout::EarthIono,
+        26 => Layout::TimeOffsets,
+        _ => Layout::Data,
+    }
+}
+
 // What every record keeps.
 pub fn head_of(record: Record) -> Head
     ensures { λ r. ⌜ r ≡ headIn «record» ⌝ }
@@ -344,6 +371,13 @@ pub fn body(record: Record, beside: Beside) -> [u8; 262]
     fields::write(layout(record), numbers::numbers_of(record, beside))
 }
 
+// The numbers of a record and of what stands beside it, in the table's order, as patterns, and 0 behind them.
+pub fn table_numbers(record: Record, beside: Beside) -> [u64; 42]
+    ensures { λ r. ⌜ r ≡ patterns (numbersOf «record» beside) ⌝ }
+{
+    numbers::numbers_of(record, beside)
+}
+
 // The record of a body, and what stands beside it. The layouts of all messages have the two IDs at the same places.
 pub fn parse(body: &[u8; 262]) -> Entry
     ensures { λ r. ⌜ r ≡ fromBody (now (body .entry)) ⌝ }
@@ -351,7 +385,7 @@ pub fn parse(body: &[u8; 262]) -> Entry
     let ids = fields::read(body, Layout::Data);
     let subframe = ids[4];
     let id = ids[6];
-    let numbers = fields::read(body, records::layout_by(subframe, id));
+    let numbers = fields::read(body, layout_by(subframe, id));
     records::entry(subframe, id, sorts::raw_of(numbers))
 }
 

@@ -1,7 +1,7 @@
 // From the numbers of a body to its record.
 ghost use mathlib.Core.Path.{_≡_};
 ghost use Rattle.message.specs.Numbers.{subframe1Of, subframe2Of, ionoGridOf, almanacOf, timeOffsetsOf, earthIonoOf, nullOf, unreadOf, pairsOf, dataOf};
-ghost use Rattle.message.specs.Records.{alone, dataBy, messageBy, entryBy, layoutBy, messageLayout};
+ghost use Rattle.message.specs.Records.{alone, dataBy, messageBy, entryBy};
 ghost use Rattle.message.specs.Raw.{look};
 use crate::Almanac;
 use crate::Beside;
@@ -15,7 +15,6 @@ use crate::Subframe2;
 use crate::TimeOffsets;
 use crate::Unread;
 use crate::sorts::Raw;
-use fields::Layout;
 
 fn subframe1_of(t: Raw) -> Subframe1
     ensures { λ r. ⌜ r ≡ subframe1Of (look t) ⌝ }
@@ -299,32 +298,6 @@ fn message(id: u64, t: Raw) -> Entry
         return alone_of(Record::GnssTime(time_offsets_of(t)));
     }
     data_message(id, t)
-}
-
-// The layout of a body with these IDs.
-pub fn layout_by(subframe: u64, id: u64) -> Layout
-    ensures { λ r. ⌜ r ≡ layoutBy subframe id ⌝ }
-{
-    if subframe == 0 {
-        return Layout::Subframe1;
-    }
-    if subframe == 1 {
-        return Layout::Subframe2;
-    }
-    message_layout(id)
-}
-
-fn message_layout(id: u64) -> Layout
-    ensures { λ r. ⌜ r ≡ messageLayout id ⌝ }
-{
-    match id {
-        5 => Layout::IonoGrid,
-        7 => Layout::Almanac,
-        9 => Layout::TimeOffsets,
-        11 => Layout::EarthIono,
-        26 => Layout::TimeOffsets,
-        _ => Layout::Data,
-    }
 }
 
 // The record of a body with these IDs.

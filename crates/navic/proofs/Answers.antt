@@ -20,11 +20,7 @@ use Rattle.weektime.specs.Time.{towcRefused}
 use Rattle.message.specs.declared.Record.{Record}
 use Rattle.message.specs.declared.Beside.{Beside}
 use Rattle.message.specs.declared.Entry.{Entry}
-use Rattle.message.specs.declared.Record.the-variants as case
-use Rattle.message.specs.declared.Slot.{Slot}
-use Rattle.message.specs.declared.Slot.the-variants as slot
-use Rattle.message.specs.Numbers.{slotId}
-use Rattle.message.specs.Records.{toBody, towcIn, idOf, idRefused, faultOf}
+use Rattle.message.specs.Records.{toBody, towcIn, idRefused, faultOf}
 use Rattle.navic.specs.declared.Quality.{Quality}
 use Rattle.navic.specs.declared.Reading.{Reading}
 use Rattle.navic.specs.declared.Reading.the-variants as reading
@@ -133,19 +129,3 @@ unfolding any.symbolsOf
 sent-put r b lent sent after e a =
     let s = any.symbolsOf family (entryOf r b) in
     a ∙ ap (λ (l : List ℕ). take 600 l ++ drop 600 lent) e ∙ ap (λ (l : List ℕ). l ++ drop 600 lent) (take-all 600 s (omega (arith, sent-long (withCheck (toBody r b)))))
-
--- ---- the line
-slot-small : (s : Slot) → slotId s ≤ 3
-slot-small slot.Subframe3 = omega arith
-slot-small slot.Subframe4 = omega arith
-
-pub id-small : (r : Record) → idOf r ≤ 3
-id-small (case.Subframe1 c) = omega arith
-id-small (case.Subframe2 c) = omega arith
-id-small (case.IonoGrid c) = slot-small (c .slot)
-id-small (case.Almanac c) = slot-small (c .slot)
-id-small (case.GpsTime c) = slot-small (c .slot)
-id-small (case.EarthIono c) = slot-small (c .slot)
-id-small (case.GnssTime c) = slot-small (c .slot)
-id-small (case.Null c) = slot-small (c .slot)
-id-small (case.Unread c) = slot-small (c .slot)

@@ -52,8 +52,8 @@ fn take_byte(kept: &mut [u8], n: u64, byte: u8) -> u64
     one_more(n)
 }
 
-// Takes all the bytes, where `count` symbols came before them; gives the new count.
-fn take_bytes(kept: &mut [u8], count: u64, bytes: &[u8]) -> u64
+// Keeps those of the bytes' symbols that have a place, where `count` symbols came before them; gives the new count.
+pub fn gather(kept: &mut [u8], count: u64, bytes: &[u8]) -> u64
     ensures { λ r. ⌜ Gathered (now (kept .entry)) count (now (bytes .entry)) (now (kept .exit)) r ⌝ }
 {
     let mut n = count;
@@ -61,13 +61,6 @@ fn take_bytes(kept: &mut [u8], count: u64, bytes: &[u8]) -> u64
         n = take_byte(kept, n, bytes[i]);
     }
     n
-}
-
-// Keeps those of the bytes' symbols that have a place among the 600 of a subframe, where `count` symbols came before them; gives the new count.
-pub fn gather(kept: &mut [u8; 600], count: u64, bytes: &[u8]) -> u64
-    ensures { λ r. ⌜ Gathered (now (kept .entry)) count (now (bytes .entry)) (now (kept .exit)) r ⌝ }
-{
-    take_bytes(kept, count, bytes)
 }
 
 // The line of an input of which these symbols were kept and so many were counted.

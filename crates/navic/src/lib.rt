@@ -50,6 +50,7 @@ pub enum Written {
 }
 
 // The six numbers that the program prints.
+#[repr(C)]
 pub struct Numbers {
     pub refusal: u32,
     pub corrected: u32,

@@ -2,79 +2,11 @@
 ghost use mathlib.Core.Path.{_≡_};
 ghost use mathlib.Core.Bool.{false};
 ghost use Rattle.bits.specs.Lists.{pick};
-ghost use Rattle.message.specs.Records.{idOf, subframeOf, messageIdOf};
-ghost use Rattle.message.specs.Numbers.{slotId};
 ghost use Rattle.navic.specs.Navic.{lineFrom, lineOf, quality};
 use crate::Numbers;
 use crate::Quality;
 use crate::Reading;
 use message::Record;
-use message::Slot;
-
-// The subframe ID of a slot.
-fn slot_id(slot: Slot) -> u32
-    ensures { λ r. ⌜ r ≡ slotId slot ⌝ }
-{
-    match slot {
-        Slot::Subframe3 => 2,
-        Slot::Subframe4 => 3,
-    }
-}
-
-// The subframe ID of a record.
-fn subframe_id(record: Record) -> u32
-    ensures { λ r. ⌜ r ≡ idOf «record» ⌝ }
-{
-    match record {
-        Record::Subframe1(_) => 0,
-        Record::Subframe2(_) => 1,
-        Record::IonoGrid(c) => {
-            let slot = c.slot;
-            slot_id(slot)
-        }
-        Record::Almanac(c) => {
-            let slot = c.slot;
-            slot_id(slot)
-        }
-        Record::GpsTime(c) => {
-            let slot = c.slot;
-            slot_id(slot)
-        }
-        Record::EarthIono(c) => {
-            let slot = c.slot;
-            slot_id(slot)
-        }
-        Record::GnssTime(c) => {
-            let slot = c.slot;
-            slot_id(slot)
-        }
-        Record::Null(c) => {
-            let slot = c.slot;
-            slot_id(slot)
-        }
-        Record::Unread(c) => {
-            let slot = c.slot;
-            slot_id(slot)
-        }
-    }
-}
-
-// The message ID of a record, 0 for subframes 1 and 2.
-fn message_id(record: Record) -> u32
-    ensures { λ r. ⌜ r ≡ messageIdOf «record» ⌝ }
-{
-    match record {
-        Record::Subframe1(_) => 0,
-        Record::Subframe2(_) => 0,
-        Record::IonoGrid(_) => 5,
-        Record::Almanac(_) => 7,
-        Record::GpsTime(_) => 9,
-        Record::EarthIono(_) => 11,
-        Record::GnssTime(_) => 26,
-        Record::Null(_) => 0,
-        Record::Unread(c) => c.id,
-    }
-}
 
 fn wide32(x: u16) -> u32
     ensures { λ r. ⌜ r ≡ x ⌝ }
@@ -123,17 +55,16 @@ pub fn bare_line(refusal: u32) -> Numbers
     )
 }
 
-// The subframe of a record, 1 to 4.
-fn subframe(record: Record) -> u32
-    ensures { λ r. ⌜ r ≡ subframeOf «record» ⌝ }
-{
-    subframe_id(record) + 1
-}
-
 // The line of a record that was read.
 pub fn done_line(record: Record, q: Quality) -> Numbers
     ensures { λ r. ⌜ r ≡ lineOf (Reading.Done «record» q) ⌝ }
 {
     let towc = message::towc(record);
-    line_from(0, q, subframe(record), towc.count(), message_id(record))
+    line_from(
+        0,
+        q,
+        message::subframe(record),
+        towc.count(),
+        message::message_id(record),
+    )
 }

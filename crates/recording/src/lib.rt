@@ -6,6 +6,7 @@ ghost use Rattle.recording.specs.Walk.{foundFrom, PartOf, HandedOn};
 use framing::Polarity;
 
 // What the walk gives from a place: its number, and where the window starts and where the walk then stands.
+#[repr(C)]
 pub struct Found {
     pub number: u8,
     pub start: usize,

@@ -6,8 +6,8 @@ use lib.ListN.{length, take}
 use lib.Seq.{take-all}
 use Rattle.navic.specs.Input.{Gathered}
 use Rattle.navic.proofs.Gathering.{gathered-none, gathered-next, gathered-long}
-use Rattle.navic.proofs.input.take_bytes.Statement.{statement}
-use Rattle.navic.proofs.input.take_bytes.Tie as tie
+use Rattle.navic.proofs.input.gather.Statement.{statement}
+use Rattle.navic.proofs.input.gather.Tie as tie
 
 abbrev Inv-loop : tie.InvT-loop
 Inv-loop kept₀ count bytes n₀ i₀ i-end kept n i =
@@ -42,8 +42,8 @@ same-length c = gathered-long _ _ _ _ _ (c .before .loop .inv .1)
 returns : tie.Need-returns Inv-loop μ-loop
 returns c = rw (take-all _ _ (c .loop-test .left)) at (c .before .loop .inv .1)
 
-pub take-bytes-spec : {M : Type 1} → statement M
-take-bytes-spec =
+pub gather-spec : {M : Type 1} → statement M
+gather-spec =
     tie.close
     (tie.spec
     Inv-loop

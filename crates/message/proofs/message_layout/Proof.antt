@@ -1,7 +1,7 @@
--- `records::message_layout` meets its contract. Assumes nothing.
+-- `message_layout` meets its contract. Assumes nothing.
 use borrow.Author.Tests.{ne-eqb}
-use Rattle.message.proofs.records.message_layout.Statement.{statement}
-use Rattle.message.proofs.records.message_layout.Tie as tie
+use Rattle.message.proofs.message_layout.Statement.{statement}
+use Rattle.message.proofs.message_layout.Tie as tie
 
 returns : tie.Need-returns
 returns c = rw (c .match .keys1)

@@ -1,9 +1,9 @@
--- `records::layout_by` meets its contract. Assumes nothing.
+-- `layout_by` meets its contract. Assumes nothing.
 use borrow.Author.Tests.{ne-eqb}
 use Rattle.message.specs.Records.{layoutBy}
 use borrow.Author.Needs.{needs}
-use Rattle.message.proofs.records.layout_by.Statement.{statement}
-use Rattle.message.proofs.records.layout_by.Tie as tie
+use Rattle.message.proofs.layout_by.Statement.{statement}
+use Rattle.message.proofs.layout_by.Tie as tie
 
 returns : tie.Need-returns
 unfolding layoutBy
