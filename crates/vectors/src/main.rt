@@ -3,6 +3,7 @@ use tally::Outcome;
 use tally::Tally;
 
 mod input;
+mod pairing;
 mod reading;
 mod record;
 mod row;
@@ -15,6 +16,7 @@ enum File {
     Cases,
     Read,
     Write,
+    Pair,
     Time,
 }
 
@@ -24,6 +26,7 @@ fn size(file: File) -> usize {
         File::Cases => 764,
         File::Read => 1698,
         File::Write => 1569,
+        File::Pair => 2253,
         File::Time => 68,
     }
 }
@@ -33,6 +36,7 @@ fn line_of(file: File, row: &[u8]) -> u64 {
     match file {
         File::Cases | File::Time => row::number(row, 0, 0),
         File::Read | File::Write => row::number(row, 880, 0),
+        File::Pair => row::number(row, 1760, 0),
     }
 }
 
@@ -41,6 +45,7 @@ fn outcome(file: File, row: &[u8], kept: &mut [u8; 600], count: &mut u64) -> Out
         File::Cases => input::run(row, kept, count),
         File::Read => reading::run(row),
         File::Write => writing::run(row),
+        File::Pair => pairing::run(row),
         File::Time => timing::run(row),
     }
 }
@@ -74,6 +79,7 @@ fn main() {
     run(File::Cases, b"cases", b"cases.txt");
     run(File::Read, b"read", b"read.txt");
     run(File::Write, b"write", b"write.txt");
+    run(File::Pair, b"pair", b"pair.txt");
     run(File::Time, b"time", b"time.txt");
     tally::print_tally(b"walk", walking::run());
 }
