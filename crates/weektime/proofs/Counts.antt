@@ -1,6 +1,7 @@
 -- Which counts are refused, and that the two ways between a count and a second undo each other.
 -- Assumes nothing.
 use mathlib.Core.Path.{_≡_, refl}
+use mathlib.Core.Logic.{_⊎_, ⊎-elim}
 use mathlib.Core.Bool.{true, false}
 use mathlib.Core.List.{[], _∷_, map}
 use Prim.Native.Nat.{ℕ, _+_, _-_, _*_, _/_, _≤_, _<_}
@@ -10,7 +11,7 @@ use borrow.Author.Tests.{le-leb, lt-leb, le-ltb, lt-ltb}
 use lib.Dec.{ltb}
 use Rattle.weektime.specs.declared.Began.the-variants as began
 use Rattle.weektime.specs.declared.Counted.the-variants as counted
-use Rattle.weektime.specs.Time.{towcRefused, beganOf, countOf}
+use Rattle.weektime.specs.Time.{towcRefused, beganOf, countOf, beganNumber, beganSecond, countedNumber, countedCount}
 
 pub too-low : (n : ℕ) → n < 1 → towcRefused n ≡ true
 unfolding towcRefused
@@ -54,3 +55,24 @@ unfolding countOf
 there-and-back n h k =
     let e : (n - 1) * 12 / 12 + 1 ≡ n = omega arith in
     rw (e, within n h k) refl
+
+-- ---- the paper's number and what is beside it
+pub began-taken : (n : ℕ) → 1 ≤ n → n ≤ 50400
+    → (beganNumber (beganOf (record { 0 = n })) ≡ 0) × (beganSecond (beganOf (record { 0 = n })) ≡ (n - 1) * 12)
+unfolding beganOf
+began-taken n h k = rw (within n h k) (refl, refl)
+
+pub began-refused : (n : ℕ) → (n < 1) ⊎ (50400 < n) → (beganNumber (beganOf (record { 0 = n })) ≡ 7) × (beganSecond (beganOf (record { 0 = n })) ≡ 0)
+unfolding beganOf
+began-refused n h = let e : towcRefused n ≡ true = ⊎-elim (too-low n) (too-high n) h in rw e (refl, refl)
+
+-- 0 and the count s div 12 + 1, or 7 and 0 where it is outside (below 1 it never is)
+pub counted-taken : (s : ℕ) → s / 12 + 1 ≤ 50400
+    → (countedNumber (countOf (record { 0 = s })) ≡ 0) × (countedCount (countOf (record { 0 = s })) ≡ s / 12 + 1)
+unfolding countOf
+counted-taken s h = rw (within (s / 12 + 1) (omega arith) h) (refl, refl)
+
+pub counted-refused : (s : ℕ) → 50400 < s / 12 + 1
+    → (countedNumber (countOf (record { 0 = s })) ≡ 7) × (countedCount (countOf (record { 0 = s })) ≡ 0)
+unfolding countOf
+counted-refused s h = rw (too-high (s / 12 + 1) h) (refl, refl)
