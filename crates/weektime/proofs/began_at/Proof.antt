@@ -16,7 +16,7 @@ unfolding beganOf
 returns c = rw (sym (c .before .refused .ensures) ∙ c .if1 .taken)
 
 sub-t4 : tie.Need-sub-t4
-sub-t4 c = taken _ (sym (c .before .refused .ensures) ∙ c .if1 .left) .0
+sub-t4 c = omega (arith, taken _ (sym (c .before .refused .ensures) ∙ c .if1 .left))
 
 mul-t5 : tie.Need-mul-t5
 mul-t5 c = omega (arith, taken _ (sym (c .before .refused .ensures) ∙ c .if1 .left))
