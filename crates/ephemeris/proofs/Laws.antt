@@ -75,7 +75,7 @@ each-of one two a b p =
     subst (λ (l : List Float). Each l (termsOf a b)) (sym (every-field a b)) (each-exact (termsOf a b) (small-of one two a b p))
 
 pub pair-means : (one two : Record) → Means one two (pairOf one two)
-unfolding pairOf
+unfolding pairOf noEphemeris
 pair-means one two = go (paired? one two) refl
   where
     go : (h : Halves) → paired? one two ≡ h → Means one two (answer h)
@@ -95,4 +95,4 @@ pair-decides one two r s (done a b p e f) (done c d q g h) =
     λ i. record { refusal = (e ∙ sym g) i; ephemeris = n i }
 pair-decides one two r s (done a b p e f) (refused q g h) = absurd (q a b p)
 pair-decides one two r s (refused p e f) (done c d q g h) = absurd (p c d q)
-pair-decides one two r s (refused p e f) (refused q g h) = λ i. record { refusal = (e ∙ sym g) i; ephemeris = (f ∙ sym h) i }
+pair-decides one two r s (refused p e f) (refused q g h) = λ i. record { refusal = (e ∙ sym g) i; ephemeris = same-numbers (r .ephemeris) (s .ephemeris) (f ∙ sym h) i }

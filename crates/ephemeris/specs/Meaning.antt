@@ -6,7 +6,7 @@ use mathlib.Core.List.{List, [], _∷_, _++_}
 use Prim.Native.Nat.{ℕ, _+_, _-_, _%_, _≤_}
 use lib.Dec.{T, eqb, leb}
 use lib.IntN.{ℤ, pos}
-use lib.ListN.{getD, drop}
+use lib.ListN.{getD, drop, replicate}
 use lib.Ieee as ieee
 use lib.Ieee.{Float, binary64}
 use Rattle.bits.specs.Lists.{pick, both, at}
@@ -21,7 +21,7 @@ use Rattle.message.specs.Records.{layoutOf, headIn, towcIn, numbersOf, recordFa
 use Rattle.ephemeris.specs.declared.Ephemeris.{Ephemeris}
 use Rattle.ephemeris.specs.declared.Paired.{Paired}
 use Rattle.ephemeris.specs.Exactly.{Exactly}
-use Rattle.ephemeris.specs.Pairing.{noEphemeris}
+use Rattle.ephemeris.specs.Pairing.{plusZero}
 
 -- the numbers of an ephemeris, in order
 abbrev pub numbersIn : Ephemeris → List Float
@@ -92,7 +92,7 @@ pub record Pair (one two : Record) (a : Subframe1) (b : Subframe2) : Type 0 wher
 
 pub data Means (one two : Record) (r : Paired) : Type 0 where
   done : (a : Subframe1) (b : Subframe2) → Pair one two a b → r .refusal ≡ 0 → Each (numbersIn (r .ephemeris)) (termsOf a b) → Means one two r
-  refused : ((a : Subframe1) (b : Subframe2) → Pair one two a b → ⊥) → r .refusal ≡ 11 → r .ephemeris ≡ noEphemeris → Means one two r
+  refused : ((a : Subframe1) (b : Subframe2) → Pair one two a b → ⊥) → r .refusal ≡ 11 → numbersIn (r .ephemeris) ≡ replicate 26 plusZero → Means one two r
 
 -- ---- a record with the idle pattern, from the bit `from` on
 pub record IdleFrom (from : ℕ) (r : Record) : Type 0 where
