@@ -1,7 +1,7 @@
 -- An idle subframe 1 and an idle subframe 2 pass for a pair, since toc and toe are both 5555 hex. Assumes nothing.
-use mathlib.Core.Path.{_≡_, refl}
+use mathlib.Core.Path.{_≡_, refl, sym, ap, _∙_}
 use mathlib.Core.Bool.{true, false}
-use Prim.Native.Nat.{ℕ}
+use Prim.Native.Nat.{ℕ, _≤_}
 use lib.IntN.{pos, negsuc}
 use Rattle.bits.specs.Lists.{atMost}
 use Rattle.bits.specs.Numbers.{number, bitsOf}
@@ -14,8 +14,29 @@ use Rattle.message.specs.declared.Subframe1.{Subframe1}
 use Rattle.message.specs.declared.Subframe2.{Subframe2}
 use Rattle.message.specs.declared.Record.the-variants as case
 use Rattle.message.specs.Records.{recordFault, faultOf, toBody}
+use Rattle.ephemeris.specs.declared.Paired.{Paired}
 use Rattle.ephemeris.specs.Pairing.{sound, fit, pairOf, idleIn}
+use Rattle.ephemeris.proofs.Idling.{idle-exactly, idle-toc, idle-toe}
+use Rattle.ephemeris.proofs.Laws.{paired-exactly}
 
+-- every idle subframe 1 and idle subframe 2 whose TOWC is in range pass for a pair
+pub idle-halves-pair : (a : Subframe1) (b : Subframe2) → idleIn (case.Subframe1 a) ≡ true → idleIn (case.Subframe2 b) ≡ true
+    → 1 ≤ a .head .towc .0 → a .head .towc .0 ≤ 50400 → 1 ≤ b .head .towc .0 → b .head .towc .0 ≤ 50400
+    → pairOf (case.Subframe1 a) (case.Subframe2 b) .refusal ≡ 0
+idle-halves-pair a b d c p q u v =
+    let i = idle-exactly (case.Subframe1 a) .0 d in
+    let j = idle-exactly (case.Subframe2 b) .0 c in
+    ap (λ (r : Paired). r .refusal)
+    (paired-exactly (case.Subframe1 a) (case.Subframe2 b) .1 a b
+    (record {
+      first = refl;
+      second = refl;
+      together = idle-toc a i ∙ sym (idle-toe b j);
+      sound-first = record { early = p; late = q; held = i .held };
+      sound-second = record { early = u; late = v; held = j .held };
+    }))
+
+-- there are such halves: `idle-pairs` names one of each
 headOf : ℕ → Head
 headOf count = record { tlm = 139; towc = record { 0 = count }; alert = true; «auto_nav» = false; spare = 0 }
 

@@ -2,18 +2,20 @@
 use mathlib.Core.Path.{_≡_, refl, sym, ap, subst, _∙_}
 use mathlib.Core.Bool.{Bool, true, false}
 use mathlib.Core.List.{List}
-use Prim.Native.Nat.{ℕ, _≤_}
+use Prim.Native.Nat.{ℕ, _+_, _-_, _%_, _≤_, _<_}
 use native.Mathlib.Omega.{arith}
 use borrow.Author.Tests.{eqb-true, eq-eqb}
 use lib.Dec.{eqb, ltb}
 use lib.IntN.{ℤ}
 use lib.ListN.{getD, length}
-use Rattle.bits.specs.Lists.{pick, both, at, part, Bits}
+use Rattle.bits.specs.Lists.{pick, both, at, part, Bits, build}
 use Rattle.bits.specs.Numbers.{number}
 use Rattle.bits.proofs.Both.{both-holds}
+use Rattle.bits.proofs.Build.{built}
 use Rattle.bits.proofs.Lists.{at-most-at}
 use Rattle.bits.proofs.Numbers.{number-part}
-use Rattle.fields.specs.Table.{head, rowsOf}
+use Rattle.bits.proofs.Parts.{part-long, part-at}
+use Rattle.fields.specs.Table.{head, subframe1, subframe2, rowsOf}
 use Rattle.fields.specs.Fields.{valueAt, values}
 use Rattle.fields.proofs.Bodies.{values-body}
 use Rattle.idle.specs.declared.Row.{Row}
@@ -112,3 +114,24 @@ idle-exactly (case.EarthIono c) = never (case.EarthIono c) (late (c .slot))
 idle-exactly (case.GnssTime c) = never (case.GnssTime c) (late (c .slot))
 idle-exactly (case.Null c) = never (case.Null c) (late (c .slot))
 idle-exactly (case.Unread c) = never (case.Unread c) (late (c .slot))
+
+-- ---- sixteen bits that alternate from 0 are 5555 hex, so toc and toe of idle halves are equal
+alternating : (word : List ℕ) (i : ℕ) → i + 16 ≤ length word → ((k : ℕ) → k < 16 → at word (i + k) ≡ k % 2) → number (part word i 16) ≡ 21845
+unfolding number build
+alternating word i h f = ap number (built 16 (λ k. k % 2) (part word i 16) (part-long word i 16 h) (λ k l. part-at word i 16 k l ∙ f k l))
+
+spelt : (r : Record) (from i : ℕ) → IdleFrom from r → from ≤ i + 1 → i + 16 ≤ 262 → (i + 1 - from) % 2 ≡ 0 → number (part (toBody r nothing) i 16) ≡ 21845
+spelt r from i d low high even =
+    alternating (toBody r nothing) i (omega (arith, body-long r nothing))
+    (λ k l.
+    let e : i + k + 1 - 1 ≡ i + k = omega arith in
+    let m : (i + k + 1 - from) % 2 ≡ k % 2 = omega arith in
+    ap (at (toBody r nothing)) (sym e) ∙ d .pattern (i + k + 1) (omega arith) (omega arith) ∙ m)
+
+pub idle-toc : (a : Subframe1) → Idle (case.Subframe1 a) → a .toc ≡ 21845
+unfolding valueAt head subframe1
+idle-toc a d = sym (number-at (case.Subframe1 a) 11 (d .held)) ∙ spelt (case.Subframe1 a) 41 90 d (omega arith) (omega arith) refl
+
+pub idle-toe : (b : Subframe2) → Idle (case.Subframe2 b) → b .toe ≡ 21845
+unfolding valueAt head subframe2
+idle-toe b d = sym (number-at (case.Subframe2 b) 7 (d .held)) ∙ spelt (case.Subframe2 b) 31 62 d (omega arith) (omega arith) refl
