@@ -1,7 +1,7 @@
 -- The values at the edges (01, "Values at the edges", marked P), as one list: what the definitions give, and what the document prints. Each row is
 -- a list of integers. Assumes nothing.
 use mathlib.Core.List.{List, [], _∷_, _++_, map}
-use Prim.Native.Nat.{ℕ, _-_}
+use Prim.Native.Nat.{ℕ, zero, suc}
 use mathlib.Core.Bool.{true, false}
 use lib.Ieee.{Float, nan, inf, fin}
 use lib.IntN.{ℤ, pos, negsuc}
@@ -20,12 +20,13 @@ use Rattle.weektime.specs.Time.{beganOf, beganNumber, beganSecond}
 abbrev pub lone : ℕ → List ℕ → List ℕ
 lone n tail = replicate n 0 ++ tail
 
--- a number as its significand with its sign, and its exponent; nothing for what is no number
+-- a number as its significand with its sign, and its exponent; nothing for -0, which no such pair tells from +0, and for what is no number
 abbrev pub parts : Float → List ℤ
 parts nan = []
 parts (inf s) = []
 parts (fin false m e) = pos m ∷ e ∷ []
-parts (fin true m e) = negsuc (m - 1) ∷ e ∷ []
+parts (fin true zero e) = []
+parts (fin true (suc m) e) = negsuc m ∷ e ∷ []
 
 -- the table's row of af0
 abbrev pub af0 : Row
