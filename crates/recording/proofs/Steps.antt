@@ -1,6 +1,6 @@
 -- A walk step by step: it gives the windows of the recording in order, and 4 ever after.
 -- Assumes nothing.
-use mathlib.Core.Path.{_≡_, refl, sym, ap, ap₂, _∙_}
+use mathlib.Core.Path.{_≡_, refl, sym, ap, ap₂, subst, _∙_}
 use mathlib.Core.Logic.{⊎-elim}
 use mathlib.Core.Bool.{Bool, true, false}
 use mathlib.Core.List.{List, [], _∷_}
@@ -141,3 +141,17 @@ module _ (n : ℕ) (w : ℕ → Walker) (r : ℕ → Handed) (new : w 0 .place �
   walker-walked k i =
       let at-k = walker-stands k (omega arith) in
       rw (← at-k .1, ← at-k .0) (calls k i .number, calls k i .symbols)
+
+  -- so calling it again and again hands back the windows of its recording, in order, and then 4 with the empty part at the end for ever
+  abbrev whole : List ℕ
+  whole = w 0 .recording .now
+
+  pub walker-windows : length whole ≤ 65536 → (k : ℕ) → k < n
+      → (k < length (windows whole) → (r k .number ≡ 0) × PartOf (w 0 .recording) (done (at (windows whole) k)) (r k .symbols))
+      × (length (windows whole) ≤ k → (r k .number ≡ 4) × PartOf (w 0 .recording) (none (length whole)) (r k .symbols))
+  walker-windows short k i =
+      let g = walked whole short in
+      let c = walker-walked k i in (
+        λ h. (c .0 ∙ ap (λ (f : Found). f .number) (g .each k h), subst (λ (f : Found). PartOf (w 0 .recording) f (r k .symbols)) (g .each k h) (c .1)),
+        λ h. (c .0 ∙ ap (λ (f : Found). f .number) (g .ever-after k h), subst (λ (f : Found). PartOf (w 0 .recording) f (r k .symbols)) (g .ever-after k h) (c .1)),
+      )
