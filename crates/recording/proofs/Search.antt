@@ -156,7 +156,7 @@ module _ (l : List ℕ) where
       go f (window h a b w) e = (a, refl)
       go f (no-more h w) e = absurd (omega arith)
 
-  -- between a place, such as a window's end, and the next window's start, or the recording's end, the rule holds nowhere
+  -- between a place, such as a window's end, and the next window's start, or the recording's end, no window stands
   pub between : (from k : ℕ) → from ≤ k → k < foundFrom l from .start → windowAt l k ≡ false
   between from k = go (foundFrom l from) (found from)
     where
