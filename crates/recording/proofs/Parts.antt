@@ -38,14 +38,21 @@ none-of l from f (no-more h w) e = refl
 pub part-one : (whole r s : RefT (List ℕ)) (f : Found) → PartOf whole f r → PartOf whole f s → (r .ptr ≡ s .ptr) × (r .now ≡ s .now)
 part-one whole r s f p q = (p .lies ∙ sym (q .lies), p .holds ∙ sym (q .holds))
 
--- the walker's step: the number, the part, and the walker afterwards
+-- the walker's step: the number, the places, the part, and the walker afterwards
 pub handed-one : (w v v′ : Walker) (r r′ : Handed) → HandedOn w v r → HandedOn w v′ r′
-    → (r .number ≡ r′ .number) × (r .symbols .ptr ≡ r′ .symbols .ptr) × (r .symbols .now ≡ r′ .symbols .now) × (v ≡ v′)
+    → (r .number ≡ r′ .number) × (r .start ≡ r′ .start) × (r .after ≡ r′ .after)
+    × (r .symbols .ptr ≡ r′ .symbols .ptr) × (r .symbols .now ≡ r′ .symbols .now) × (v ≡ v′)
 handed-one w v v′ r r′ p q =
     let part = part-one (w .recording) (r .symbols) (r′ .symbols) (foundFrom (w .recording .now) (w .place)) (p .symbols) (q .symbols) in
     let whole : v .recording ≡ v′ .recording = p .kept ∙ sym (q .kept) in
-    let place : v .place ≡ v′ .place = p .moved ∙ sym (q .moved) in
-    (p .number ∙ sym (q .number), part .0, part .1, λ i. record { recording = whole i; place = place i })
+    let place : v .place ≡ v′ .place = p .moved ∙ sym (q .moved) in (
+      p .number ∙ sym (q .number),
+      p .start ∙ sym (q .start),
+      p .after ∙ sym (q .after),
+      part .0,
+      part .1,
+      λ i. record { recording = whole i; place = place i },
+    )
 
 -- ---- the part beside each number
 module _ (whole r : RefT (List ℕ)) (from : ℕ) (p : PartOf whole (foundFrom (whole .now) from) r) where

@@ -121,6 +121,10 @@ unfolding stood
 stood-next l from zero = refl
 stood-next l from (suc k) = stood-next l (foundFrom l from .after) k
 
+-- the number and the places that are handed on
+abbrev pub told : Handed → Found
+told r = record { number = r .number; start = r .start; after = r .after }
+
 -- n calls one after another, from a new walker on, each over the walker that the one before left
 module _ (n : ℕ) (w : ℕ → Walker) (r : ℕ → Handed) (new : w 0 .place ≡ 0) (calls : (k : ℕ) → k < n → HandedOn (w k) (w (suc k)) (r k)) where
   walker-stands : (k : ℕ) → k ≤ n → (w k .recording ≡ w 0 .recording) × (w k .place ≡ stood (w 0 .recording .now) 0 k)
@@ -135,23 +139,26 @@ module _ (n : ℕ) (w : ℕ → Walker) (r : ℕ → Handed) (new : w 0 .place �
             ∙ sym (stood-next (w 0 .recording .now) 0 k),
       )
 
-  -- call k hands on the number and the part of step k
+  -- call k hands on what step k gives, and its part
   pub walker-walked : (k : ℕ) → k < n
-      → (r k .number ≡ step (w 0 .recording .now) 0 k .number) × PartOf (w 0 .recording) (step (w 0 .recording .now) 0 k) (r k .symbols)
+      → (told (r k) ≡ step (w 0 .recording .now) 0 k) × PartOf (w 0 .recording) (step (w 0 .recording .now) 0 k) (r k .symbols)
   walker-walked k i =
       let at-k = walker-stands k (omega arith) in
-      rw (← at-k .1, ← at-k .0) (calls k i .number, calls k i .symbols)
+      let call = calls k i in
+      rw (← at-k .1, ← at-k .0)
+      (λ j. record { number = call .number j; start = call .start j; after = call .after j }, call .symbols)
 
-  -- so calling it again and again hands back the windows of its recording, in order, and then 4 with the empty part at the end for ever
+  -- so calling it again and again hands back the windows of its recording with their places, in order, and then 4 with the empty part at the end
+  -- for ever
   abbrev whole : List ℕ
   whole = w 0 .recording .now
 
   pub walker-windows : length whole ≤ 65536 → (k : ℕ) → k < n
-      → (k < length (windows whole) → (r k .number ≡ 0) × PartOf (w 0 .recording) (done (at (windows whole) k)) (r k .symbols))
-      × (length (windows whole) ≤ k → (r k .number ≡ 4) × PartOf (w 0 .recording) (none (length whole)) (r k .symbols))
+      → (k < length (windows whole) → (told (r k) ≡ done (at (windows whole) k)) × PartOf (w 0 .recording) (done (at (windows whole) k)) (r k .symbols))
+      × (length (windows whole) ≤ k → (told (r k) ≡ none (length whole)) × PartOf (w 0 .recording) (none (length whole)) (r k .symbols))
   walker-windows short k i =
       let g = walked whole short in
       let c = walker-walked k i in (
-        λ h. (c .0 ∙ ap (λ (f : Found). f .number) (g .each k h), subst (λ (f : Found). PartOf (w 0 .recording) f (r k .symbols)) (g .each k h) (c .1)),
-        λ h. (c .0 ∙ ap (λ (f : Found). f .number) (g .ever-after k h), subst (λ (f : Found). PartOf (w 0 .recording) f (r k .symbols)) (g .ever-after k h) (c .1)),
+        λ h. (c .0 ∙ g .each k h, subst (λ (f : Found). PartOf (w 0 .recording) f (r k .symbols)) (g .each k h) (c .1)),
+        λ h. (c .0 ∙ g .ever-after k h, subst (λ (f : Found). PartOf (w 0 .recording) f (r k .symbols)) (g .ever-after k h) (c .1)),
       )

@@ -56,6 +56,8 @@ pub record PartOf (whole : RefT (List ℕ)) (f : Found) (r : RefT (List ℕ)) : 
 -- the walker w hands r on, and is v afterwards
 pub record HandedOn (w v : Walker) (r : Handed) : Type 0 where
   pub number : r .number ≡ foundFrom (w .recording .now) (w .place) .number
+  pub start : r .start ≡ foundFrom (w .recording .now) (w .place) .start
+  pub after : r .after ≡ foundFrom (w .recording .now) (w .place) .after
   pub symbols : PartOf (w .recording) (foundFrom (w .recording .now) (w .place)) (r .symbols)
   pub kept : v .recording ≡ w .recording
   pub moved : v .place ≡ foundFrom (w .recording .now) (w .place) .after

@@ -68,9 +68,11 @@ pub struct Walker<'a> {
     place: usize,
 }
 
-// What a walker hands on: the number, and the window's symbols as a part of the recording.
+// What a walker hands on: the number, where the window starts and where the walk then stands, and the window's symbols as a part of the recording.
 pub struct Handed<'a> {
     pub number: u8,
+    pub start: usize,
+    pub after: usize,
     pub symbols: &'a [u8],
 }
 
@@ -85,7 +87,7 @@ impl<'a> Walker<'a> {
         }
     }
 
-    // The number and the next window, and the walk then stands at the window's end.
+    // The number, the next window and its place, and the walk then stands at the window's end.
     pub fn next(&mut self) -> Handed<'a>
         ensures { λ r. ⌜ HandedOn (now (self .entry)) (now (self .exit)) r ⌝ }
     {
@@ -96,6 +98,8 @@ impl<'a> Walker<'a> {
         let symbols = cut(recording, found);
         Handed {
             number: found.number,
+            start: found.start,
+            after: found.after,
             symbols,
         }
     }

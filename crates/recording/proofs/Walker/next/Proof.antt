@@ -1,6 +1,6 @@
 -- `recording::Walker::next` meets its contract: a walk of its MIR, by hand. The borrow of the walker is opened, `find` is called on the
--- recording and the place, the new place is stored, `cut` is called on the recording and what `find` gave, the result is made of the
--- number and the part, and the borrow is closed at the walker with the new place.
+-- recording and the place, the new place is stored, `cut` is called on the recording and what `find` gave, the result is made of what
+-- `find` gave and the part, and the borrow is closed at the walker with the new place.
 -- The walker is Copy: what it owns is had twice at each call, and one copy is kept. All that the proof knows of `find` and `cut` is that they
 -- meet their contracts. Assumes nothing.
 use mathlib.Core.Path.{_≡_, refl, ap}
@@ -186,25 +186,35 @@ module _ {M : Type 1} (𝓤 : URA M) (H : Heap 𝓤) (A : Atoms 𝓤) (W : Given
 
   -- what is handed on, and the exit with it
   abbrev made : Found → RefT (List ℕ) → Handed
-  made f r = record { number = f .number; symbols = r }
+  made f r = record { number = f .number; start = f .start; after = f .after; symbols = r }
 
   abbrev leaves : Found → RefT (List ℕ) → List (Item 𝓤)
   leaves f r =
       ‵ (fobs γ (B κ′ .coded .code (h′ f))) ∷ ‵ (fbor κ (Body (mem (B κ′)) b o γ)) ∷ ‵ (flft κ q)
       ∷ ‵ (Slice .own r (sliceVal (r .ptr) (length (r .now)) ∷ [])) ∷ token ∷ []
 
-  exits : (f : Found) (r : RefT (List ℕ)) → f ≡ found → PartOf (h .recording) found r → f .number < 2 ^ 8
+  exits : (f : Found) (r : RefT (List ℕ)) → f ≡ found → PartOf (h .recording) found r → f .number < 2 ^ 8 → f .start < 2 ^ 64 → f .after < 2 ^ 64
       → ent 𝓤 (⋆ 𝓤 H A (leaves f r)) (Post (P′.lowered (made f r)))
-  exits f r e p ok =
+  exits f r e p number-ok start-ok after-ok =
       qed W (leaves f r) ∵
       suffices ! _ (ends-at 𝓤 H A next.ended stayed (next.clauses 𝓤 H A at-mem run) W
       (((κ, (κ′, tt)), (q, (q′, tt)), bounds, x, at), tt) (P′.lowered (made f r)) (made f r) (h′ f, tt) (tt, tt)) $
-      says ! (record { number = ap (λ (g : Found). g .number) e; symbols = p; kept = refl; moved = ap (λ (g : Found). g .after) e }) $
+      says ! (record {
+        number = ap (λ (g : Found). g .number) e;
+        start = ap (λ (g : Found). g .start) e;
+        after = ap (λ (g : Found). g .after) e;
+        symbols = p;
+        kept = refl;
+        moved = ap (λ (g : Found). g .after) e;
+      }) $
       move ! (2 ∷ 4 ∷ []) $ join ! $ frame ! $ feqI ! (List Val) (vptr b o ∷ []) (vptr b o ∷ []) refl $ fjoin3 ! $
       nothing ! $ move ! (1 ∷ 0 ∷ []) $ fjoin ! $ frame ! $
-      -- [what the part owns]: with the number's facts it is what the result owns
-      nothing ! $ move ! (1 ∷ 0 ∷ []) $ fjoin ! $ owned ! u8 (Is u8) (uint-makes 𝓤 H A W w8) (f .number) _ (refl, ok) $ fjoin ! $
-      by ! (own-shut 𝓤 H A W (P.the-type (α κ′)) (P′.the-laws (α κ′)) (f .number, (r, tt)))
+      -- [what the part owns]: with the facts of the number and the two places it is what the result owns
+      nothing ! $ move ! (1 ∷ 0 ∷ []) $ fjoin ! $
+      owned ! usize (Is usize) (uint-makes 𝓤 H A W w64) (f .after) _ (refl, after-ok) $ fjoin ! $
+      owned ! usize (Is usize) (uint-makes 𝓤 H A W w64) (f .start) _ (refl, start-ok) $ fjoin ! $
+      owned ! u8 (Is u8) (uint-makes 𝓤 H A W w8) (f .number) _ (refl, number-ok) $ fjoin ! $
+      by ! (own-shut 𝓤 H A W (P.the-type (α κ′)) (P′.the-laws (α κ′)) (f .number, (f .start, (f .after, (r, tt)))))
 
   module _ (C : Calls 𝓤 H) (Λ : Loops 𝓤 H) (fm : FmC 𝓤 H (W .laws) C)
       (known-find : Triple 𝓤 (C #recording·find) (FindC 𝓤 H A at-mem run)) (known-cut : Triple 𝓤 (C #recording·cut) (CutC 𝓤 H A at-mem run)) where
@@ -257,8 +267,19 @@ module _ {M : Type 1} (𝓤 : URA M) (H : Heap 𝓤) (A : Atoms 𝓤) (W : Given
         rewrite ! 0 (λ (z : Val). ‵ (Slice .own r (z ∷ []))) (ap only (lies .0 .0)) refl $
         -- the result is made
         assigns ! (agg ! (and-then ! (load ! (from ! (fld ! refl (stop !))) (look-in ! 10 (sub ! 0 refl (whole !))))
-        (and-then ! (load ! (from ! (stop !)) (look ! 8 refl)) (no-more !))))
-        (from ! (stop !)) (init ! 18 refl (tt, (record { fits = is .1 .1 .0 .1 }, ((tt, (record { fits = lies .0 .1 .0 }, tt)), tt)))) $
+        (and-then ! (load ! (from ! (fld ! refl (stop !))) (look-in ! 10 (sub ! 1 refl (whole !))))
+        (and-then ! (load ! (from ! (fld ! refl (stop !))) (look-in ! 10 (sub ! 2 refl (whole !))))
+        (and-then ! (load ! (from ! (stop !)) (look ! 8 refl)) (no-more !))))))
+        (from ! (stop !)) (init ! 18 refl (
+          tt,
+          (
+            record { fits = is .1 .1 .0 .1 },
+            (
+              record { fits = is .1 .1 .1 .0 .1 },
+              (record { fits = is .1 .1 .1 .1 .0 .1 }, ((tt, (record { fits = lies .0 .1 .0 }, tt)), tt)),
+            ),
+          ),
+        )) $
         -- the borrow is closed at the walker with the new place
         move ! (2 ∷ []) $ use1 W (‵ (B κ′ .own (h′ f) (T′.lowered (h′ f) ∷ []))) (again f (is .1 .1 .1 .1 .0 .1)) $
         move ! (3 ∷ []) $ use1 W (‵ (cellAt fullShare (B κ′ .mir) (T′.lowered (h′ f) ∷ []) b o))
@@ -268,7 +289,7 @@ module _ {M : Type 1} (𝓤 : URA M) (H : Heap 𝓤) (A : Atoms 𝓤) (W : Given
         forget ! 6 refl $ forget ! 8 refl $ forget ! 10 refl $ forget ! 12 refl $ forget ! 14 refl $ forget ! 16 refl $
         move ! (16 ∷ 17 ∷ []) $ free1 ! $ move ! (14 ∷ 15 ∷ []) $ free1 ! $ move ! (12 ∷ 13 ∷ []) $ free1 ! $
         move ! (10 ∷ 11 ∷ []) $ free1 ! $ move ! (8 ∷ 9 ∷ []) $ free1 ! $ move ! (6 ∷ 7 ∷ []) $ free1 ! $ free0 ! $
-        keep ! (0 ∷ 1 ∷ 2 ∷ 3 ∷ 4 ∷ []) $ by ! (exits f r e (part-of e p) (is .1 .1 .0 .1))))))))))))))))))
+        keep ! (0 ∷ 1 ∷ 2 ∷ 3 ∷ 4 ∷ []) $ by ! (exits f r e (part-of e p) (is .1 .1 .0 .1) (is .1 .1 .1 .0 .1) (is .1 .1 .1 .1 .0 .1))))))))))))))))))
 
 module _ {M : Type 1} (𝓤 : URA M) (H : Heap 𝓤) (A : Atoms 𝓤) (W : Given 𝓤 H A) (mem : Memory → SProp 𝓤) (run : Routine → Fun 𝓤) where
   next-walks : (C : Calls 𝓤 H) (Λ : Loops 𝓤 H) → FmC 𝓤 H (W .laws) C
