@@ -1,0 +1,9 @@
+pub mod Words
+pub mod Judged
+pub mod Padding
+pub mod Layouts
+pub mod Lawful
+pub mod ReadAsRecords
+pub mod Answered
+pub mod WrittenAsRecords
+pub mod PairedAsRecords
