@@ -49,7 +49,7 @@ module _ (zs : List ℤ) where
   ordered = by-length (eqb (length zs) 42) refl
 
   -- what the writer takes has no fault, and what has none it takes
-  record Sound : Type 0 where
+  pub record Sound : Type 0 where
     pub long : length zs ≡ 42
     pub own-id : idAbove zs ≡ false
     pub in-time : late zs ≡ false
@@ -64,7 +64,7 @@ module _ (zs : List ℤ) where
   sound-by true false false true o p q r z =
       record { long = eqb-true (length zs) 42 o; own-id = p; in-time = q; fits = eqb-true (faultFrom zs) 0 r }
 
-  sound : refusal zs ≡ 0 → Sound
+  pub sound : refusal zs ≡ 0 → Sound
   unfolding refusal
   sound z = sound-by (eqb (length zs) 42) (idAbove zs) (late zs) (eqb (faultFrom zs) 0) refl refl refl refl z
 
@@ -121,7 +121,7 @@ module _ (body : List ℕ) where
   none-at-fault = padded-fault (own body) (front body) own-layout front-long ∙ values-fit (own body) body
 
 -- ---- numbers that the writer takes
-no-fault : (n : ℕ) (u : Bool) → pick (eqb n 0) (pick u 0 293) n ≡ 0 → (n ≡ 0) × (u ≡ true)
+pub no-fault : (n : ℕ) (u : Bool) → pick (eqb n 0) (pick u 0 293) n ≡ 0 → (n ≡ 0) × (u ≡ true)
 no-fault n u e = go (eqb n 0) u refl e
   where
     go : (t u : Bool) → eqb n 0 ≡ t → pick t (pick u 0 293) n ≡ 0 → (n ≡ 0) × (u ≡ true)

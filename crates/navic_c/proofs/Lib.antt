@@ -1,3 +1,4 @@
+pub mod Theorems
 pub mod Words
 pub mod Judged
 pub mod Padding
