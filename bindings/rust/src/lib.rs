@@ -1,23 +1,49 @@
-//! Reader and writer of NavIC L5 SPS navigation subframes, over the verified static library `navic_c`.
+//! Reader and writer of the navigation subframes of NavIC (IRNSS) on L5, by the ICD for SPS, version 1.0, June 2014: safe calls
+//! over the verified static library `navic_c`.
+//!
+//! - [`read`] takes the 600 symbols of a subframe to a [`Record`], [`write`] the other way.
+//! - [`pair`] makes one [`Ephemeris`] of subframes 1 and 2; mind [`is_idle_pattern`].
+//! - [`Windows`] and [`find`] look for subframes in a recording.
+//! - [`Towc`], [`SecondOfWeek`] and [`Week`] are the three quantities of time.
+//! - [`nearest`] is the decoder alone.
+//! - [`sys`] has the C library's calls as they are.
+//!
+//! Each call accepts every input, ends, and refuses by a number that the error's `number` gives; the numbers are those of
+//! `include/navic.h`. Refusal 2, too little room, can't come here.
+//!
+//! ```
+//! use navic::{read, Record, SecondOfWeek};
+//!
+//! // four symbols wrong, and all turned over
+//! let text = std::fs::read("../../samples/noisy.txt").unwrap();
+//! let symbols: Vec<u8> = text.iter().filter(|c| **c != b'\n').map(|c| c - b'0').collect();
+//!
+//! let reading = read(&symbols).unwrap();
+//! assert_eq!(reading.quality.corrected, 4);
+//! assert!(reading.quality.turned_over);
+//! let Record::Null(null) = reading.record else { panic!("a null message") };
+//! assert_eq!(null.head.towc.began_at(), Ok(SecondOfWeek(126252)));
+//! ```
+#![deny(unsafe_code)]
+#![warn(missing_docs)]
 
+mod calls;
+mod decoder;
+mod pairing;
+mod record;
+mod recording;
+mod subframe;
 pub mod sys;
+mod time;
 
 #[cfg(test)]
-mod tests {
-    use super::sys::*;
+mod tests;
 
-    #[test]
-    fn the_noisy_sample() {
-        let symbols: Vec<u8> = include_bytes!("../../../samples/noisy.txt").iter().filter(|b| **b != b'\n').map(|b| b - b'0').collect();
-        let (mut word, mut numbers) = ([0xA5; WORD_BYTES], [-1; NUMBERS]);
-        let line = unsafe { navic_read(symbols.as_ptr(), symbols.len(), word.as_mut_ptr(), word.len(), numbers.as_mut_ptr(), numbers.len()) };
-        assert_eq!(line, Line { refusal: 0, corrected: 4, polarity: 1, subframe: 4, towc: 10522, message_id: 0 });
-        assert_eq!((numbers[1], numbers[4]), (10522, 3));
-        let mut sent = [9; SYMBOLS];
-        let written = unsafe { navic_write(numbers.as_ptr(), numbers.len(), sent.as_mut_ptr(), sent.len()) };
-        assert_eq!(written, Written { refusal: 0, first_bit: 0 });
-        assert_eq!(symbols.iter().zip(&sent).filter(|(came, sent)| **came == **sent).count(), 4);
-        assert_eq!(unsafe { navic_began_at(10522) }, Began { refusal: 0, second: 126252 });
-        assert_eq!(unsafe { navic_find(symbols.as_ptr(), 600, 0) }, Found { number: 0, start: 0, after: 600 });
-    }
-}
+pub use decoder::{nearest, Nearest, NearestRefusal};
+pub use pairing::{is_idle_pattern, pair, NoPair};
+pub use record::{Almanac, EarthIono, Head, IonoGrid, Null, Pair, Record, Slot, Subframe1, Subframe2, TimeOffsets, Unread};
+pub use record::{DATA_BYTES, GRID_PLACES};
+pub use recording::{find, FindRefusal, Window, Windows};
+pub use subframe::{read, write, Quality, ReadRefusal, Reading, WriteRefusal};
+pub use sys::Ephemeris;
+pub use time::{OutsideWeek, SecondOfWeek, Towc, Week};

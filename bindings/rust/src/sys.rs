@@ -44,36 +44,61 @@ pub struct Written {
     pub first_bit: u32,
 }
 
-/// One ephemeris, from subframes 1 and 2, in engineering units; angles in semi-circles.
+/// One ephemeris, from subframes 1 and 2, in engineering units; no angle is converted.
 #[repr(C)]
 #[derive(Clone, Copy, Debug, PartialEq)]
-#[allow(missing_docs)]
 pub struct Ephemeris {
+    /// Week number.
     pub wn: f64,
+    /// Clock bias, s.
     pub af0: f64,
+    /// Clock drift, s/s.
     pub af1: f64,
+    /// Clock drift rate, s/s^2.
     pub af2: f64,
+    /// Accuracy index.
     pub ura: f64,
+    /// Time of clock, s.
     pub toc: f64,
+    /// Group delay, s.
     pub tgd: f64,
+    /// Mean motion difference, semi-circles/s.
     pub delta_n: f64,
+    /// Issue of data.
     pub iodec: f64,
+    /// The L5 flag, 0 or 1.
     pub l5_flag: f64,
+    /// The S flag, 0 or 1.
     pub s_flag: f64,
+    /// Argument of latitude, cosine, rad.
     pub cuc: f64,
+    /// Argument of latitude, sine, rad.
     pub cus: f64,
+    /// Inclination, cosine, rad.
     pub cic: f64,
+    /// Inclination, sine, rad.
     pub cis: f64,
+    /// Orbit radius, cosine, m.
     pub crc: f64,
+    /// Orbit radius, sine, m.
     pub crs: f64,
+    /// Rate of inclination, semi-circles/s.
     pub idot: f64,
+    /// Mean anomaly, semi-circles.
     pub m0: f64,
+    /// Time of ephemeris, s.
     pub toe: f64,
+    /// Eccentricity.
     pub e: f64,
+    /// Root of the semi-major axis, m^(1/2).
     pub root_a: f64,
+    /// Longitude of the ascending node, semi-circles.
     pub omega0: f64,
+    /// Argument of perigee, semi-circles.
     pub omega: f64,
+    /// Rate of right ascension, semi-circles/s.
     pub omega_dot: f64,
+    /// Inclination, semi-circles.
     pub i0: f64,
 }
 
