@@ -260,7 +260,7 @@ typedef struct navic_paired {
 navic_paired navic_pair(const int64_t *first, size_t first_len, const int64_t *second, size_t second_len);
 
 /* Whether a record of subframe 1 or 2 is the idle pattern: alert set, and alternating bits from 0 up to bit 262,
- * in subframe 1 from bit 41 and in subframe 2 from bit 31. False for every other record. */
+ * in subframe 1 from bit 41 and in subframe 2 from bit 31. False for everything else. */
 bool navic_is_idle_pattern(const int64_t *numbers, size_t numbers_len);
 
 /* ---- walking over a recording */

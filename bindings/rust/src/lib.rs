@@ -1,7 +1,7 @@
 //! Reader and writer of the navigation subframes of NavIC (IRNSS) on L5, by the ICD for SPS, version 1.0, June 2014: safe calls
 //! over the verified static library `navic_c`.
 //!
-//! - [`read`] takes the 600 symbols of a subframe to a [`Record`], [`write`] the other way.
+//! - [`read`] takes the 600 symbols of a subframe to a [`Record`], [`write()`] the other way.
 //! - [`pair`] makes one [`Ephemeris`] of subframes 1 and 2; mind [`is_idle_pattern`].
 //! - [`Windows`] and [`find`] look for subframes in a recording.
 //! - [`Towc`], [`SecondOfWeek`] and [`Week`] are the three quantities of time.
