@@ -6,7 +6,6 @@
 //   bench --rounds N   more or fewer repetitions
 #define _GNU_SOURCE
 #include <dlfcn.h>
-#include <errno.h>
 #include <pthread.h>
 #include <stdbool.h>
 #include <stddef.h>
@@ -246,7 +245,8 @@ static void do_write(int k)
     written = navic_write(pool[k].numbers, NUMBERS, written_symbols, SYMBOLS);
 }
 
-static void do_fec(int k)
+// Not inlined, so that its instructions can be counted by name.
+__attribute__((noinline)) static void do_fec(int k)
 {
     init_viterbi27(fec, 0);
     update_viterbi27_blk(fec, pool[k].levels, STEPS);
@@ -275,7 +275,7 @@ static const char *const names[THINGS] = {
 // at one when it is first used; only its SSE and AVX ones have the instruction psignw.
 static const char *fec_variant(void)
 {
-    return dlsym(RTLD_DEFAULT, "update_viterbi27_blk_sse2") != NULL ? "SSE2 is among its variants" : "portable C, the only variant in it";
+    return dlsym(RTLD_DEFAULT, "update_viterbi27_blk_sse2") != NULL ? "the best of its variants, SSE2 among them" : "portable C, the only variant in it";
 }
 
 static const char *osmo_variant(void)
@@ -283,12 +283,12 @@ static const char *osmo_variant(void)
     void **chosen = dlsym(RTLD_DEFAULT, "osmo_conv_metrics_k7_n2");
     if (chosen == NULL || *chosen == NULL)
         return "variant unknown";
-    const uint8_t *code = *chosen;
+    const uint8_t *at = *chosen;
     for (int i = 0; i < 512; i++) {
-        if (memcmp(code + i, "\x66\x0f\x38\x09", 4) == 0)
-            return "SIMD: SSE";
-        if (code[i] == 0xc4 && (code[i + 1] & 0x1f) == 2 && code[i + 3] == 0x09)
-            return code[i + 2] & 4 ? "SIMD: AVX2" : "SIMD: AVX";
+        if (memcmp(at + i, "\x66\x0f\x38\x09", 4) == 0)
+            return "SIMD: SSE, 128 bits wide";
+        if (at[i] == 0xc4 && (at[i + 1] & 0x1f) == 2 && at[i + 3] == 0x09)
+            return at[i + 2] & 4 ? "SIMD: AVX2, 256 bits wide" : "SIMD: AVX, 128 bits wide";
     }
     return "portable C, no SIMD";
 }
@@ -410,7 +410,7 @@ static void measure_subframes(int rounds)
     for (int i = 0; i < THINGS; i++)
         printf("  %-48s %7.2f %7.2f %12.2f%s%s%s\n", names[i], least_of(t[i], rounds), median(t[i], rounds), ratio(t[i], t[OSMO], rounds),
                i == FEC || i == OSMO ? "  " : "", i == FEC ? fec_variant() : "", i == OSMO ? osmo_variant() : "");
-    printf("  (the last column is the median of the rounds' ratios)\n\n");
+    printf("  (CPU time of one thread; the last column is the median of the rounds' ratios)\n\n");
     reader_ratio = ratio(t[READ], t[OSMO], rounds);
     decoder_ratio = ratio(t[NEAREST], t[OSMO], rounds);
     for (int i = 0; i < THINGS; i++)
@@ -490,7 +490,7 @@ static void measure_walk(int rounds)
 
 // ---- the stack: a thread on a painted one makes one call and looks how far down the paint is gone
 
-enum { STACK = 1 << 20 };
+enum { STACK = 1 << 18 };
 
 struct painted {
     uint8_t *lowest;
