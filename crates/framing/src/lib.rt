@@ -2,7 +2,7 @@
 // Levels go from 0 to `top`; at `top` 1 they are symbols.
 ghost use mathlib.Core.Path.{_≡_};
 ghost use mathlib.Core.List.{_++_};
-ghost use Prim.Native.Nat.{_-_};
+ghost use Prim.Native.Nat.{_-_, max};
 ghost use lib.ListN.{length, drop};
 ghost use Rattle.bits.specs.Lists.{pick, part, atMost};
 ghost use Rattle.framing.specs.Sync.{eb90, bitAt, judged, syncOf};
@@ -64,18 +64,21 @@ pub fn sync(top: u8, symbols: &[u8], at: usize) -> Polarity
     judge(disagreeing)
 }
 
-// Whether no symbol is above `top`.
+fn higher(a: u8, b: u8) -> u8
+    ensures { λ r. ⌜ r ≡ max a b ⌝ }
+{
+    if a < b { b } else { a }
+}
+
+// Whether no symbol is above `top`, by the highest of them: no way out of the loop, so that it goes over many at once.
 pub fn clean(top: u8, symbols: &[u8]) -> bool
     ensures { λ r. ⌜ r ≡ atMost top (now (symbols .entry)) ⌝ }
 {
-    let mut i = 0;
-    while i < symbols.len() {
-        if symbols[i] > top {
-            return false;
-        }
-        i += 1;
+    let mut highest = 0;
+    for i in 0..symbols.len() {
+        highest = higher(highest, symbols[i]);
     }
-    true
+    highest <= top
 }
 
 // A level, turned over where asked; one above `top` gives 0.
