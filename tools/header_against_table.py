@@ -36,16 +36,16 @@ def definition(text, name):
     found = re.search(r"^%s\b[^\n:]*=(.*?)(?=\n\s*\n|\n--|\n\w|\Z)" % name, text, re.M | re.S)
     if not found:
         raise SystemExit("no definition of %s" % name)
-    return " ".join(found.group(1).split())
+    return " ".join(re.sub(r" *-- .*", "", found.group(1)).split())
 
 
 def table_rows(text, name):
     """The rows of a list of the table, or of a single row: (first bit, width, sign, exponent)."""
     body = definition(text, name)
-    row = r"row (\d+) (\d+) (true|false) \((pos|negsuc) (\d+)\)"
+    row = r"row (\d+) (\d+) (true|false) \((pos|minus) (\d+)\)"
     if re.sub(row, "", body).replace("∷", "").replace("[]", "").strip():
         raise SystemExit("%s is not a list of rows" % name)
-    return [(int(first), int(width), "s" if signed == "true" else "u", int(n) if kind == "pos" else -int(n) - 1)
+    return [(int(first), int(width), "s" if signed == "true" else "u", int(n) if kind == "pos" else -int(n))
             for first, width, signed, kind, n in re.findall(row, body)]
 
 

@@ -194,8 +194,8 @@ def definitions():
     text = open(DEFINITION, encoding="utf-8").read()
     found = {}
     for name, body in re.findall(r"^unfoldable pub (\w+) : (?:List )?Row\n\1 =(.*?)(?=\n\n|\Z)", text, re.M | re.S):
-        rows = re.findall(r"row (\d+) (\d+) (true|false) \((pos|negsuc) (\d+)\)", body)
-        found[name] = [(int(f), int(w), s == "true", int(n) if sign == "pos" else -1 - int(n)) for f, w, s, sign, n in rows]
+        rows = re.findall(r"row (\d+) (\d+) (true|false) \((pos|minus) (\d+)\)", body)
+        found[name] = [(int(f), int(w), s == "true", int(n) if sign == "pos" else -int(n)) for f, w, s, sign, n in rows]
     return found
 
 

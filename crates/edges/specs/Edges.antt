@@ -11,7 +11,7 @@ use Rattle.crc24q.specs.Check.{checkOf}
 use Rattle.ephemeris.specs.Exactly.{exactly}
 use Rattle.fields.specs.declared.Layout.the-variants.{Subframe1}
 use Rattle.fields.specs.declared.Row.{Row}
-use Rattle.fields.specs.Table.{row, width, signed, rowsOf}
+use Rattle.fields.specs.Table.{row, width, signed, scale, rowsOf}
 use Rattle.fields.specs.Fields.{valueOf}
 use Rattle.framing.specs.Interleaver.{place}
 use Rattle.weektime.specs.Time.{beganOf, beganNumber, beganSecond}
@@ -51,7 +51,7 @@ given =
     map second (1 ∷ 24843 ∷ 50400 ∷ 0 ∷ 50401 ∷ []) ∷
     map refusal (1 ∷ 24843 ∷ 50400 ∷ 0 ∷ 50401 ∷ []) ∷
     map inAf0 (0x200000 ∷ 0x1FFFFF ∷ 0x3FFFFF ∷ []) ∷
-    parts (exactly (inAf0 0x3FFFFF) (af0 .3)) ∷
+    parts (exactly (inAf0 0x3FFFFF) (scale af0)) ∷
     []
 
 unfoldable pub printed : List (List ℤ)

@@ -11,7 +11,7 @@ use lib.Ieee as ieee
 use lib.Ieee.{Float, binary64}
 use Rattle.bits.specs.Lists.{pick, both, at}
 use Rattle.fields.specs.declared.Row.{Row}
-use Rattle.fields.specs.Table.{first, width, rowsOf}
+use Rattle.fields.specs.Table.{first, width, scale, rowsOf}
 use Rattle.message.specs.declared.Subframe1.{Subframe1}
 use Rattle.message.specs.declared.Subframe2.{Subframe2}
 use Rattle.message.specs.declared.Record.{Record}
@@ -61,7 +61,7 @@ kept r = both (leb 31 (first r)) (both (leb (first r + width r) 261) (not (both 
 -- the raw numbers of such rows, each with its row's scale
 abbrev pub terms : List Row → List ℤ → List (ℤ × ℤ)
 terms [] zs = []
-terms (r ∷ rs) zs = pick (kept r) ((getD zs 0 (pos 0), r .3) ∷ []) [] ++ terms rs (drop 1 zs)
+terms (r ∷ rs) zs = pick (kept r) ((getD zs 0 (pos 0), scale r) ∷ []) [] ++ terms rs (drop 1 zs)
 
 abbrev pub termsIn : Record → List (ℤ × ℤ)
 termsIn r = terms (rowsOf (layoutOf r)) (numbersOf r nothing)

@@ -9,7 +9,7 @@ use Rattle.bits.specs.Lists.{pick, both}
 use Rattle.weektime.specs.Time.{towcRefused}
 use Rattle.fields.specs.declared.Layout.{Layout}
 use Rattle.fields.specs.declared.Layout.the-variants as layout
-use Rattle.fields.specs.Table.{row, rowsOf}
+use Rattle.fields.specs.Table.{row, scale, rowsOf}
 use Rattle.idle.specs.Idle.{patternOf}
 use Rattle.message.specs.declared.Subframe1.{Subframe1}
 use Rattle.message.specs.declared.Subframe2.{Subframe2}
@@ -24,7 +24,7 @@ use Rattle.ephemeris.specs.Exactly.{exactly}
 -- ---- the numbers
 -- the exponent of the scale in the row k of a layout, from 0; the rows 0 to 5 are the head's
 unfoldable pub scaleAt : Layout → ℕ → ℤ
-scaleAt l k = getD (rowsOf l) k (row 0 0 false (pos 0)) .3
+scaleAt l k = scale (getD (rowsOf l) k (row 0 0 false (pos 0)))
 
 -- a raw number of subframe 1 or 2 times the scale of its row
 abbrev pub inFirst : ℤ → ℕ → Float
