@@ -338,21 +338,21 @@ pub const PAIRS: [(usize, usize); 15] = [
 ];
 
 /// The row of GIVEI of a pair (003, Table 15 and Figure 15).
-fn givei_row(pair: usize) -> Row {
+pub fn givei_row(pair: usize) -> Row {
     Row { name: "givei", first: PAIRS[pair].0, width: 4, signed: false, scale: 0 }
 }
 
 /// The row of GIVD of a pair (003, Table 15 and Figure 15; 0.125 is two to the -3).
-fn givd_row(pair: usize) -> Row {
+pub fn givd_row(pair: usize) -> Row {
     Row { name: "givd", first: PAIRS[pair].1, width: 9, signed: false, scale: -3 }
 }
 
 /// Bits 9-25, TOWC, the second row of the head (01, The fields).
 const TOWC: Row = HEAD[1];
 /// Bits 28-29, the subframe ID (01, The fields; 003, Table 10).
-const SUBFRAME_ID: Row = Row { name: "subframe id", first: 28, width: 2, signed: false, scale: 0 };
+pub const SUBFRAME_ID: Row = Row { name: "subframe id", first: 28, width: 2, signed: false, scale: 0 };
 /// Bits 31-36, the message ID of subframes 3 and 4 (01, The fields; 003, Figure 12).
-const MESSAGE_ID: Row = Row { name: "message id", first: 31, width: 6, signed: false, scale: 0 };
+pub const MESSAGE_ID: Row = Row { name: "message id", first: 31, width: 6, signed: false, scale: 0 };
 /// Bits 263-286, the check (01, Check).
 const CHECK: Row = Row { name: "check", first: 263, width: CHECK_BITS, signed: false, scale: 0 };
 
@@ -452,7 +452,7 @@ impl Case {
     }
 
     /// The kind's own table.
-    fn own_rows(self) -> &'static [Row] {
+    pub fn own_rows(self) -> &'static [Row] {
         match self {
             Case::Subframe1 => SUBFRAME1,
             Case::Subframe2 => SUBFRAME2,
@@ -472,18 +472,18 @@ impl Case {
     }
 
     /// Whether the 220 data bits stand beside the record (01, The fields: null and unread).
-    fn uses_data(self) -> bool {
+    pub fn uses_data(self) -> bool {
         matches!(self, Case::Null | Case::Unread)
     }
 
     /// Whether the fifteen pairs stand beside the record (01, The fields: type 5).
-    fn uses_pairs(self) -> bool {
+    pub fn uses_pairs(self) -> bool {
         matches!(self, Case::Type5)
     }
 
     /// The case of subframe ID bits and message ID bits (01, The fields: "0, 1, 2, 3 mean subframe 1, 2,
     /// 3, 4"; "Other IDs than 5, 7, 9, 11, 26 and 0 give the unread case").
-    fn from_ids(subframe_id: i64, message_id: i64) -> Case {
+    pub fn from_ids(subframe_id: i64, message_id: i64) -> Case {
         match (subframe_id, message_id) {
             (0, _) => Case::Subframe1,
             (1, _) => Case::Subframe2,
@@ -1095,6 +1095,11 @@ impl Reading {
 /// Reads one subframe (01, the whole of "From symbols to 292 bits" and "The fields"). Done, the first 36
 /// bytes of the room hold bits 1 to 286 and two zero bits; refused, the room stays as it was.
 pub fn read(symbols: &[u8], room: &mut [u8]) -> Reading {
+    read_by(nearest, symbols, room)
+}
+
+/// The same with another search for the nearest word, which has to give the answers of `nearest`.
+pub fn read_by(search: fn(&[u8]) -> Option<Nearest>, symbols: &[u8], room: &mut [u8]) -> Reading {
     if symbols.len() != SUBFRAME_SYMBOLS {
         return Reading::refused(1, 0, false);
     }
@@ -1107,7 +1112,7 @@ pub fn read(symbols: &[u8], room: &mut [u8]) -> Reading {
     let Some(turned_over) = sync(symbols) else {
         return Reading::refused(4, 0, false);
     };
-    let Some(found) = nearest(&deinterleave(&air_of(symbols, turned_over))) else {
+    let Some(found) = search(&deinterleave(&air_of(symbols, turned_over))) else {
         return Reading::refused(10, 0, false);
     };
     let mut word: Word = [0; WORD_BITS];
@@ -1193,7 +1198,7 @@ pub fn write(record: &Record, beside: &Beside, room: &mut [u8]) -> (u32, u32) {
 }
 
 /// The 292 bits of a record without faults and of what stands beside it (01, The fields; 01, Check).
-fn word_of(record: &Record, beside: &Beside) -> Word {
+pub fn word_of(record: &Record, beside: &Beside) -> Word {
     let mut word: Word = [0; WORD_BITS];
     put(&mut word, &SUBFRAME_ID, record.subframe() as i64 - 1);
     if record.which().is_some() {
