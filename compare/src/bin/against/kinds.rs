@@ -370,7 +370,8 @@ fn above_one(work: &mut Work) -> Outcome<()> {
         symbols[place] = chance.of(&[2, 3, 48, 49, 128, 129, 254, 255, any]);
     }
     let (word, numbers) = (chance.of(&[35, 36, 36, 40]), chance.of(&[41, 42, 42, 50]));
-    work.read_into(&symbols, word, numbers)?;
+    let length = chance.of(&[599, 600, 600, 600, 600, 600, 600, 600]);
+    work.read_into(&symbols[..length], word, numbers)?;
     Ok(())
 }
 
@@ -674,7 +675,7 @@ fn nearest(work: &mut Work) -> Outcome<()> {
             1 => room = chance.below(286),
             2 => coded[chance.below(584)] = chance.of(&[2, 3, 128, 255]),
             _ => {
-                coded[583] = 2;
+                coded[0] = 2;
                 room = chance.of(&[285, 286]);
                 coded.resize(chance.of(&[583, 584]), 0);
             }

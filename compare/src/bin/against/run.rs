@@ -64,9 +64,11 @@ pub fn run() -> i32 {
         }
     }
     std::thread::scope(|scope| {
-        for _ in 0..given.threads {
+        // One of them is this thread itself.
+        for _ in 1..given.threads {
             scope.spawn(|| worker(&given, &shared));
         }
+        worker(&given, &shared);
     });
     if shared.failed.load(Ordering::SeqCst) {
         return 1;
@@ -164,6 +166,9 @@ fn summary(given: &Arguments, shared: &Shared, tallies: &[Tally], took: Duration
     println!("{:<14}{:>9}  calls and the numbers they gave", "kind", "cases");
     for (kind, tally) in KINDS.iter().zip(tallies) {
         let skipped = given.skip.iter().any(|name| name == kind.name);
+        if tally.cases == 0 && !skipped {
+            continue;
+        }
         let text = if skipped { "skipped".to_string() } else { calls_of(tally) };
         println!("{:<14}{:>9}  {text}", kind.name, tally.cases);
         all.add(tally);
