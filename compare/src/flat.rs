@@ -11,7 +11,7 @@ const FAR: u16 = 10_000;
 /// symbol times 2 plus the second. The register's content is `plain::nearest`'s: the bit k before the
 /// present one has weight two to the k-1. With the present bit below it that is seven bits, the present
 /// one lowest; the octal numbers of document 01 have the present bit highest, so they are turned round:
-/// 171 is 1111001 and stays 1001111 turned, 133 is 1011011 and turned 1101101.
+/// 171 is 1111001, turned 1001111; 133 is 1011011, turned 1101101.
 const fn differing(content: usize, bit: usize, received: usize) -> u16 {
     let seven = (content * 2 + bit) as u32;
     let g1 = (seven & 0b1001111).count_ones() % 2;

@@ -15,7 +15,8 @@ pub const ID_AT: usize = 4;
 pub const MESSAGE_AT: usize = 6;
 
 /// The case that subframe ID and message ID decide. Message records are those with subframe ID 2 and
-/// above; below 0 there is no layout, and as the ID itself is the lowest field but four then, any will do.
+/// above. Below 0 there is no layout; any will do, since the ID is at fault then and bits 1 to 27 are the same
+/// in all.
 pub fn case_of(id: i64, message_id: i64) -> Case {
     match id {
         ..=0 => Case::Subframe1,
@@ -192,7 +193,8 @@ pub fn paired(first: &[i64], second: &[i64]) -> (u32, [f64; EPHEMERIS]) {
 }
 
 /// Whether numbers are the idle pattern of subframe 1 or 2. Those with a fault of 8 are no record, so
-/// they are not; TOWC doesn't matter as long as its field holds it.
+/// they are not (docs/DECISIONS.md); TOWC doesn't matter as long as its field holds it. The documents leave
+/// this open, and `plain::is_idle_pattern` by itself doesn't look at TLM, TOWC, AutoNav, bit 30 and the week.
 pub fn idle(numbers: &[i64]) -> bool {
     match (<&Numbers>::try_from(numbers), typed(numbers)) {
         (Ok(all), Some((record, _))) => fault(all) == 0 && is_idle_pattern(&record),
