@@ -9,13 +9,13 @@ use Rattle.message.specs.declared.Record.{Record}
 use Rattle.message.specs.Numbers.{nothing}
 use Rattle.message.specs.Records.{Use, none, pairs, bits, usedBy, unusedZero, layoutOf, recordFault, faultOf}
 
-nothing-unused : (u : Use) → unusedZero u nothing ≡ true
+pub nothing-unused : (u : Use) → unusedZero u nothing ≡ true
 unfolding atMost
 nothing-unused none = refl
 nothing-unused pairs = refl
 nothing-unused bits = refl
 
-same : (n : ℕ) → pick (eqb n 0) 0 n ≡ n
+pub same : (n : ℕ) → pick (eqb n 0) 0 n ≡ n
 same n = go (eqb n 0) refl
   where
     go : (t : Bool) → eqb n 0 ≡ t → pick t 0 n ≡ n

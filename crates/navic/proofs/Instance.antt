@@ -16,7 +16,7 @@ use Rattle.navic.specs.Refusals.{Refusal, Given, none, here, later}
 use Rattle.navic.specs.Family.{IsBody, Family, Lawful}
 use Rattle.navic.specs.Navic.{entryConditions, entryRefusal, family}
 
-clash : {b : Bool} → b ≡ false → b ≡ true → ⊥
+pub clash : {b : Bool} → b ≡ false → b ≡ true → ⊥
 clash p q = let z : _≡_ {A = ℕ} 0 1 = (cc) in omega arith
 
 module _ (e : Entry) where

@@ -21,12 +21,10 @@ use Rattle.message.specs.Numbers.{unsigned}
 use Rattle.message.specs.Records.{layoutBy, subframeId, messageId}
 use Rattle.navic.specs.Refusals.{Given, none, here, later}
 use Rattle.navic.specs.Family.{IsBody, Lawful}
+use Rattle.navic.proofs.Instance.{clash}
 use Rattle.navic_c.specs.Numbers.{padded, numbersIn, layoutIn, rowsIn, bodyFrom, idAbove, late, allZero, faultFrom, conditions, refusal, numbered}
 use Rattle.navic_c.proofs.Padding.{padded-again, body-ahead, fault-ahead, padded-42, padded-body, padded-fault}
 use Rattle.navic_c.proofs.Layouts.{frame-number, message-number, laid}
-
-clash : {b : Bool} → b ≡ false → b ≡ true → ⊥
-clash p q = let z : _≡_ {A = ℕ} 0 1 = (cc) in omega arith
 
 -- ---- the writer's refusals
 module _ (zs : List ℤ) where

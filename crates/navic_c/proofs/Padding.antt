@@ -1,7 +1,7 @@
 -- Numbers with zeros behind them: a list is the front of it with zeros where the rest is zeros, and a layout looks at its own numbers only.
 -- Assumes nothing.
 use mathlib.Core.Path.{_≡_, refl, sym, ap, ap₂, _∙_}
-use mathlib.Core.Bool.{Bool, true, false}
+use mathlib.Core.Bool.{true}
 use mathlib.Core.List.{List, [], _∷_, _++_}
 use Prim.Native.Nat.{ℕ, zero, suc, _-_, _≤_}
 use native.Mathlib.Omega.{arith}
@@ -12,6 +12,7 @@ use lib.ListN.{length, take, drop, replicate, length-append, length-replicate, l
 use lib.Seq.{length-take-le, drop-at}
 use Rattle.bits.specs.Lists.{pick}
 use Rattle.bits.proofs.Both.{both-holds}
+use Rattle.ephemeris.proofs.Alone.{same}
 use Rattle.fields.specs.declared.Layout.{Layout}
 use Rattle.fields.specs.declared.Row.{Row}
 use Rattle.fields.specs.Table.{first, width, rowsOf}
@@ -63,13 +64,6 @@ fault-ahead (r ∷ rs) [] rest e = absurd (omega arith)
 fault-ahead (r ∷ rs) (z ∷ zs) rest e = ap (λ (n : ℕ). pick (holds r z) n (first r)) (fault-ahead rs zs rest (omega arith))
 
 -- ---- numbers of the layout that they name, one to a row, with zeros behind them
-pub same : (n : ℕ) → pick (eqb n 0) 0 n ≡ n
-same n = go (eqb n 0) refl
-  where
-    go : (t : Bool) → eqb n 0 ≡ t → pick t 0 n ≡ n
-    go true e = sym (eqb-true n 0 e)
-    go false e = refl
-
 module _ (l : Layout) (zs : List ℤ) (named : layoutIn (padded zs) ≡ l) (long : length zs ≡ length (rowsOf l)) where
   pub padded-42 : length (padded zs) ≡ 42
   padded-42 = padded-long 42 zs (omega (arith, few l))

@@ -8,10 +8,10 @@ use borrow.Author.Tests.{eqb-true, eq-eqb}
 use lib.Dec.{eqb, ltb}
 use lib.IntN.{ℤ}
 use lib.ListN.{length}
-use Rattle.bits.specs.Lists.{pick, both, atMost}
+use Rattle.bits.specs.Lists.{pick, both}
 use Rattle.bits.proofs.Both.{both-false}
 use Rattle.ephemeris.specs.Pairing.{sound, fit, none, answer, pairOf, idleIn}
-use Rattle.ephemeris.proofs.Alone.{fault-alone}
+use Rattle.ephemeris.proofs.Alone.{nothing-unused, fault-alone}
 use Rattle.message.specs.declared.Slot.{Slot}
 use Rattle.message.specs.declared.Slot.the-variants as slot
 use Rattle.message.specs.declared.Subframe1.{Subframe1}
@@ -20,20 +20,12 @@ use Rattle.message.specs.declared.Entry.{Entry}
 use Rattle.message.specs.declared.Record.{Record}
 use Rattle.message.specs.declared.Record.the-variants as case
 use Rattle.message.specs.Numbers.{slotId, nothing}
-use Rattle.message.specs.Records as records
-use Rattle.message.specs.Records.{Use, layoutOf, numbersOf, fromBody, idRefused, faultOf, usedBy, unusedZero, towcIn, subframeOf}
+use Rattle.message.specs.Records.{layoutOf, numbersOf, fromBody, idRefused, faultOf, usedBy, unusedZero, towcIn, subframeOf}
 use Rattle.message.proofs.Laws.{record-back}
 use Rattle.weektime.specs.Time.{towcRefused}
 use Rattle.navic_c.specs.Numbers.{padded}
 use Rattle.navic_c.specs.Calls.{fitting, recordOf, pairedOf, idleOfNumbers}
 use Rattle.navic_c.proofs.WrittenAsRecords.{written-as-record}
-
--- nothing beside a record is nothing unused
-nothing-unused : (u : Use) → unusedZero u nothing ≡ true
-unfolding atMost
-nothing-unused records.none = refl
-nothing-unused records.pairs = refl
-nothing-unused records.bits = refl
 
 -- ---- a record alone
 abbrev pub alone : Record → List ℤ

@@ -27,6 +27,7 @@ use Rattle.link.specs.Link.{sentOf, receiveOf}
 use Rattle.navic.specs.Refusals.{Given}
 use Rattle.navic.specs.Family.{Reading, done, refused, readerConditions, writerConditions, readingNumber, readingOf, writingOf, symbolsOf}
 use Rattle.navic.proofs.Demands as demands
+use Rattle.navic.proofs.Instance.{clash}
 use Rattle.navic.proofs.Ordered.{reader-ordered, writer-ordered}
 use Rattle.navic_c.specs.Numbers.{layoutIn, rowsIn, allZero, faultFrom, refusal, numbered}
 use Rattle.navic_c.specs.Calls.{int64, readFrom, lineOf, writtenOf}
@@ -85,9 +86,6 @@ zeros-seen : (n : ℕ) → int64 (map pattern (replicate n (pos 0))) ≡ replica
 zeros-seen zero = refl
 zeros-seen (suc n) = ap (λ (l : List ℤ). pos 0 ∷ l) (zeros-seen n)
 
-clash : false ≡ true → ⊥
-clash e = let z : _≡_ {A = ℕ} 0 1 = (cc) in omega arith
-
 -- ---- as C's int64_t: a number within its field has fewer than 64 bits
 held-small : (r : Row) (z : ℤ) → width r ≤ 63 → holds r z ≡ true → mag z < 2 ^ 63
 unfolding holds
@@ -96,7 +94,7 @@ held-small r z m h = go (signed r) z h
     go : (s : Bool) (z : ℤ) → pick s (ltb (mag z) (2 ^ (width r - 1))) (inUnsigned (width r) z) ≡ true → mag z < 2 ^ 63
     go true z e = omega (arith, ltb-true (mag z) (2 ^ (width r - 1)) e, half-small (width r) m)
     go false (pos n) e = omega (arith, ltb-true n (2 ^ width r) e, whole-small (width r) m)
-    go false (negsuc n) e = absurd (clash e)
+    go false (negsuc n) e = absurd (clash refl e)
 
 int64-of : (z : ℤ) → mag z < 2 ^ 63 → toZ w64 (pattern z) ≡ z
 int64-of z h = toZ-ofZ {w = w64} {z = z} (record { sfits = h })

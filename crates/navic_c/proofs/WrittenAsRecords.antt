@@ -6,6 +6,7 @@ use borrow.Author.Tests.{eq-eqb}
 use lib.Dec.{ltb}
 use lib.IntN.{ℤ}
 use lib.ListN.{length}
+use Rattle.ephemeris.proofs.Alone.{same}
 use Rattle.bits.proofs.Both.{both-false}
 use Rattle.message.specs.declared.Record.{Record}
 use Rattle.message.specs.declared.Record.the-variants as case
@@ -18,7 +19,7 @@ use Rattle.message.proofs.Return.{Named, layout-back}
 use Rattle.navic.specs.Navic.{entryOf, entryRefusal}
 use Rattle.weektime.specs.Time.{towcRefused}
 use Rattle.navic_c.specs.Numbers.{padded, layoutIn, bodyFrom, idAbove, late, faultFrom, refusal}
-use Rattle.navic_c.proofs.Padding.{same, padded-42, padded-body, padded-fault}
+use Rattle.navic_c.proofs.Padding.{padded-42, padded-body, padded-fault}
 
 -- the numbers zs say of the record r, with b beside it, all that the writer asks
 pub record Says (zs : List ℤ) (r : Record) (b : Beside) : Type 0 where
