@@ -1,4 +1,5 @@
 pub mod Answers
+pub mod Besides
 pub mod Demands
 pub mod Gathering
 pub mod Instance

@@ -8,10 +8,13 @@ use native.Mathlib.Omega.{arith}
 use lib.Dec.{eqb, leb}
 use lib.ListN.{length, take, drop}
 use borrow.Author.Tests.{eq-eqb, ne-eqb, le-leb}
-use Rattle.bits.specs.Lists.{pick}
+use Rattle.bits.specs.Lists.{pick, differences}
+use Rattle.convolution.specs.Code.{codedForm}
+use Rattle.convolution.proofs.Distance.{distance}
+use Rattle.crc24q.specs.Check.{agreesOf}
 use Rattle.framing.specs.Frame.{turnedIf}
 use Rattle.link.specs.Link.{sentOf, receiveOf}
-use Rattle.link.specs.Promise.{alteredCoded, Altered, Taken}
+use Rattle.link.specs.Promise.{IsWord, alteredCoded, Altered, Taken}
 use Rattle.link.proofs.Recovered.{sent-long}
 use Rattle.message.specs.declared.Record.{Record}
 use Rattle.message.specs.declared.Beside.{Beside}
@@ -27,6 +30,7 @@ use Rattle.navic.specs.Family as any
 use Rattle.navic.specs.Family.{readerConditions, writerConditions}
 use Rattle.navic.specs.Navic.{family, quality, answer, readOf, numberIn, isDone, qualityIn, lineOf, lentAfterRead, writeAnswer, writtenBy, writtenNumber, writtenBeside, entryOf, entryRefusal, entryBeside, lentAfterWrite}
 use Rattle.navic.proofs.Answers.{read-is}
+use Rattle.navic.proofs.Besides as besides
 use Rattle.navic.proofs.Demands as demands
 use Rattle.navic.proofs.Instance.{lawful}
 use Rattle.navic.proofs.Ordered.{reader-ordered, writer-ordered}
@@ -52,6 +56,33 @@ pub read-refuses : (s : List ℕ) (room : ℕ) → Given (readerConditions famil
 unfolding answer
 read-refuses s room =
     subst (Given (readerConditions family s room)) (sym (number-kept (any.readingOf family s room))) (reader-ordered family s room)
+
+-- the numbers beside the reader's answer: zeros beside 1, 2, 3, 4 and 10; beside 0, 5, 6 and 7 the count and the polarity of the nearest word
+abbrev pub ReadBeside : List ℕ → Reading → Type 0
+ReadBeside s (reading.Done r q) = Taken s (q .«turned_over») (receiveOf 1 s .word) (q .corrected) (agreesOf (receiveOf 1 s .word))
+ReadBeside s reading.Length = Unit {0}
+ReadBeside s reading.Room = Unit {0}
+ReadBeside s reading.BadSymbol = Unit {0}
+ReadBeside s reading.NoSync = Unit {0}
+ReadBeside s reading.NoWord = Unit {0}
+ReadBeside s (reading.Idle q) = Taken s (q .«turned_over») (receiveOf 1 s .word) (q .corrected) (agreesOf (receiveOf 1 s .word))
+ReadBeside s (reading.BadCheck q) = Taken s (q .«turned_over») (receiveOf 1 s .word) (q .corrected) (agreesOf (receiveOf 1 s .word))
+ReadBeside s (reading.BadTime q) = Taken s (q .«turned_over») (receiveOf 1 s .word) (q .corrected) (agreesOf (receiveOf 1 s .word))
+
+beside-kept : (s : List ℕ) (y : any.Reading family) → besides.Beside family s y → ReadBeside s (readOf y .reading)
+beside-kept s (any.done e n t) b = b
+beside-kept s (any.refused any.notOf600 n t) b = tt
+beside-kept s (any.refused any.littleRoom n t) b = tt
+beside-kept s (any.refused any.badSymbol n t) b = tt
+beside-kept s (any.refused any.noSync n t) b = tt
+beside-kept s (any.refused any.noWord n t) b = tt
+beside-kept s (any.refused any.isIdle n t) b = b
+beside-kept s (any.refused any.badCheck n t) b = b
+beside-kept s (any.refused any.badTime n t) b = b
+
+pub read-beside : (s : List ℕ) (room : ℕ) → ReadBeside s (answer s room .reading)
+unfolding answer
+read-beside s room = beside-kept s (any.readingOf family s room) (besides.read-beside family s room)
 
 module _ (r : Record) (b : Beside) where
   -- the writer's number is one of its own
@@ -99,6 +130,10 @@ module _ (r : Record) (b : Beside) where
         → answer (turnedIf t 1 s) lent ≡ record { reading = reading.Done r (quality (alteredCoded (symbolsOf r b) s) t); beside = b }
     unfolding answer
     read-altered s a t lent enough = ap readOf (demands.read-altered family lawful (entryOf r b) no-refusal s a t lent enough)
+
+-- DEMAND 3: two different words of 286 bits, each followed by six zeros, differ in at least ten of their 584 coded symbols
+pub words-apart : (w v : List ℕ) → IsWord w → IsWord v → (w ≡ v → ⊥) → 10 ≤ differences (codedForm w) (codedForm v)
+words-apart w v a b = distance w v (a .bits) (b .bits) (a .long ∙ sym (b .long))
 
 -- DEMAND 2, the other way
 pub record WrittenAgain (s : List ℕ) (r : Record) (b : Beside) (n : ℕ) (t : Bool) : Type 0 where
