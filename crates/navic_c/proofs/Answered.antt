@@ -33,7 +33,7 @@ use Rattle.navic.proofs.Ordered.{not-600, little-room}
 use Rattle.navic.proofs.Packing.{copied, copied-whole}
 use Rattle.navic.proofs.Reading.{the-type}
 use Rattle.navic_c.specs.declared.Written.{Written}
-use Rattle.navic_c.specs.declared.Nearest.{Nearest}
+use Rattle.navic_c.specs.declared.Decoded.{Decoded}
 use Rattle.navic_c.specs.Numbers.{padded, faultFrom, refusal, beside, numbered}
 use Rattle.navic_c.specs.Calls.{readFrom, wordAfter, numbersAfter, numbersBy, writtenOf, nearestOf, nearestInto}
 use Rattle.navic_c.proofs.ReadAsRecords.{asNumbers, reading-same}
@@ -171,7 +171,7 @@ module _ (coded : List ℕ) (long : length coded ≡ 584) where
 
 module _ (coded lent : List ℕ) where
   -- the answer, and the lent bytes afterwards
-  abbrev Decodes : Nearest → List ℕ → Type 0
+  abbrev Decodes : Decoded → List ℕ → Type 0
   Decodes r later = (r ≡ nearestOf coded (length lent)) × (later ≡ nearestInto coded lent)
 
   pub not-584 : (length coded ≡ 584 → ⊥) → Decodes (record { refusal = 1; corrected = 0 }) lent

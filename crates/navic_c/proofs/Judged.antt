@@ -77,10 +77,10 @@ pub fitting-long : (ns : List ℕ) → fitting (int64 ns) ≡ true → length ns
 unfolding fitting
 fitting-long ns f = sym (length-map ns (toZ w64)) ∙ eqb-true (length (int64 ns)) 42 (both-holds _ _ f .0)
 
-pub fitting-as : (ns : List ℕ) {n : ℕ} {t : Bool} → length ns ≡ 42 → n ≡ faultFrom (int64 ns) → t ≡ eqb n 0 → t ≡ fitting (int64 ns)
+pub fitting-as : (ns : List ℕ) {n : ℕ} {t : Bool} → length ns ≡ 42 → n ≡ faultIn (rowsIn (int64 ns)) (int64 ns) → t ≡ eqb n 0 → t ≡ fitting (int64 ns)
 unfolding fitting
-fitting-as ns long e f = f ∙ ap (λ (n : ℕ). eqb n 0) e ∙ sym (ap (λ (t : Bool). both t (eqb (faultFrom (int64 ns)) 0)) (eq-eqb (length (int64 ns)) 42 (length-map ns (toZ w64) ∙ long)))
+fitting-as ns long e f = f ∙ ap (λ (n : ℕ). eqb n 0) e ∙ sym (ap (λ (t : Bool). both t (eqb (faultIn (rowsIn (int64 ns)) (int64 ns)) 0)) (eq-eqb (length (int64 ns)) 42 (length-map ns (toZ w64) ∙ long)))
 
 pub not-fitting : (ns : List ℕ) → (length ns ≡ 42 → ⊥) → false ≡ fitting (int64 ns)
 unfolding fitting
-not-fitting ns h = sym (ap (λ (t : Bool). both t (eqb (faultFrom (int64 ns)) 0)) (ne-eqb (length (int64 ns)) 42 (λ e. h (sym (length-map ns (toZ w64)) ∙ e))))
+not-fitting ns h = sym (ap (λ (t : Bool). both t (eqb (faultIn (rowsIn (int64 ns)) (int64 ns)) 0)) (ne-eqb (length (int64 ns)) 42 (λ e. h (sym (length-map ns (toZ w64)) ∙ e))))

@@ -1,4 +1,5 @@
 pub mod Theorems
+pub mod Buffers
 pub mod Words
 pub mod Judged
 pub mod Padding

@@ -70,9 +70,14 @@ module _ (zs : List ℤ) (room : ℕ) (taken : writtenOf zs room .refusal ≡ 0)
   unfolding readFrom
   read-altered s a t bytes count enough numbers = rw (le-leb 42 count numbers) (demands.read-altered numbered lawful zs accepted s a t bytes enough)
 
+takes : (zs : List ℤ) → refusal zs ≡ 0 → (room : ℕ) → 600 ≤ room → writtenOf zs room .refusal ≡ 0
+unfolding writtenOf writingOf
+takes zs z room enough = rw (le-leb 600 room enough) z
+
 -- DEMAND 2, the other way: what is read the writer takes, and gives the upright symbols of the word that was read, the nearest to what came
 pub record WrittenAgain (s : List ℕ) (zs : List ℤ) (n : ℕ) (t : Bool) : Type 0 where
-  pub taken : refusal zs ≡ 0
+  pub accepted : refusal zs ≡ 0
+  pub taken : (room : ℕ) → 600 ≤ room → writtenOf zs room .refusal ≡ 0
   pub symbols : symbolsOf numbered zs ≡ sentOf (receiveOf 1 s .word)
   pub nearest : Taken s t (receiveOf 1 s .word) n true
 
@@ -80,7 +85,7 @@ pub write-again : (s : List ℕ) (bytes count n : ℕ) (t : Bool) (zs : List ℤ
 unfolding readFrom
 write-again s bytes count n t zs e =
     let a = demands.write-again numbered lawful s (pick (leb 42 count) bytes 0) zs n t e in
-    record { taken = a .accepted; symbols = a .symbols; nearest = a .nearest }
+    record { accepted = a .accepted; taken = takes zs (a .accepted); symbols = a .symbols; nearest = a .nearest }
 
 zeros-seen : (n : ℕ) → int64 (map pattern (replicate n (pos 0))) ≡ replicate n (pos 0)
 zeros-seen zero = refl

@@ -1,9 +1,10 @@
 -- A record written by its numbers is refused and laid as the writer of records does it. Assumes nothing.
 use mathlib.Core.Path.{_≡_, refl, sym}
-use mathlib.Core.Bool.{true, false}
+use mathlib.Core.Bool.{Bool, true, false}
 use mathlib.Core.List.{List, [], _∷_}
+use Prim.Native.Nat.{ℕ}
 use borrow.Author.Tests.{eq-eqb}
-use lib.Dec.{ltb}
+use lib.Dec.{eqb, leb, ltb}
 use lib.IntN.{ℤ}
 use lib.ListN.{length}
 use Rattle.ephemeris.proofs.Alone.{same}
@@ -16,9 +17,13 @@ use Rattle.message.specs.Records.{among, layoutOf, numbersOf, toBody, idRefused
 use Rattle.message.proofs.Choice.{neither}
 use Rattle.message.proofs.Laws.{numbers-long}
 use Rattle.message.proofs.Return.{Named, layout-back}
-use Rattle.navic.specs.Navic.{entryOf, entryRefusal}
+use Rattle.bits.specs.Lists.{pick}
+use Rattle.navic.specs.Family.{writingOf, writeInto, symbolsOf}
+use Rattle.navic.specs.Navic.{family, entryOf, entryRefusal, entryBeside, writtenBy, writtenNumber, writtenBeside, writeAnswer, lentAfterWrite}
+use Rattle.navic_c.specs.declared.Written.{Written}
 use Rattle.weektime.specs.Time.{towcRefused}
-use Rattle.navic_c.specs.Numbers.{padded, layoutIn, bodyFrom, idAbove, late, faultFrom, refusal}
+use Rattle.navic_c.specs.Numbers.{padded, layoutIn, bodyFrom, idAbove, late, faultFrom, refusal, numbered}
+use Rattle.navic_c.specs.Calls.{writtenOf}
 use Rattle.navic_c.proofs.Padding.{padded-42, padded-body, padded-fault}
 
 -- the numbers zs say of the record r, with b beside it, all that the writer asks
@@ -96,3 +101,23 @@ module _ (r : Record) (b : Beside) (d : idRefused r ≡ false) (u : unusedZero (
         long = long-written;
         refused = refused-alike;
       }
+
+  -- so the answer is that of crate navic's writer, and so are the lent symbols afterwards
+  by-tests : (room i l f : Bool) (k : ℕ)
+      → let n = pick room (pick i 9 (pick l 7 (pick {A = ℕ} f 0 8))) 2 in
+      let w = writtenBy n (pick (eqb (pick i 9 (pick l 7 (pick {A = ℕ} f 0 8))) 8) k 0) in
+      _≡_ {A = Written} (record { refusal = n; «first_bit» = pick (eqb n 8) k 0 }) (record { refusal = writtenNumber w; «first_bit» = writtenBeside w })
+  by-tests false i l f k = refl
+  by-tests true true l f k = refl
+  by-tests true false true f k = refl
+  by-tests true false false true k = refl
+  by-tests true false false false k = refl
+
+  pub answered-alike : (room : ℕ) → writtenOf zs room ≡ record { refusal = writtenNumber (writeAnswer r b room); «first_bit» = writtenBeside (writeAnswer r b room) }
+  unfolding writtenOf writingOf writeAnswer entryBeside entryRefusal
+  answered-alike room =
+      rw (refused-alike, fault-written) (by-tests (leb 600 room) (idRefused r) (towcRefused (towcIn r)) (eqb (faultOf r b) 0) (faultOf r b))
+
+  pub lent-alike : (lent : List ℕ) → writeInto numbered zs lent ≡ lentAfterWrite r b lent
+  unfolding writeInto writingOf symbolsOf lentAfterWrite
+  lent-alike lent = rw (refused-alike, body-written) refl

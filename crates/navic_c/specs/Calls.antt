@@ -13,6 +13,7 @@ use Rattle.convolution.specs.Code.{cost}
 use Rattle.convolution.specs.Trellis.{decode}
 use Rattle.ephemeris.specs.declared.Paired.{Paired}
 use Rattle.ephemeris.specs.Pairing.{pairOf, idleIn, answer, none}
+use Rattle.fields.specs.Fields.{faultIn}
 use Rattle.fields.specs.Patterns.{pattern, patterns}
 use Rattle.link.specs.Link.{receiveOf}
 use Rattle.message.specs.declared.Record.{Record}
@@ -28,14 +29,14 @@ use Rattle.weektime.specs.Time.{beganOf, countOf, beganNumber, beganSecond, cou
 use Rattle.navic_c.specs.declared.Written.{Written}
 use Rattle.navic_c.specs.declared.Began.{Began}
 use Rattle.navic_c.specs.declared.Counted.{Counted}
-use Rattle.navic_c.specs.declared.Nearest.{Nearest}
-use Rattle.navic_c.specs.Numbers.{numbered, faultFrom, bodyFrom}
+use Rattle.navic_c.specs.declared.Decoded.{Decoded}
+use Rattle.navic_c.specs.Numbers.{numbered, rowsIn, faultFrom, bodyFrom}
 
 -- what C's int64_t says where the code has the same 64 bits as an unsigned number
 abbrev pub int64 : List ℕ → List ℤ
 int64 ns = map (toZ w64) ns
 
--- the first n are numbers of 64 bits; 42 such numbers
+-- the first n are numbers of 64 bits; 42 such numbers. (For the private functions' contracts; every u64 is one.)
 abbrev pub Few : List ℕ → ℕ → Type 0
 Few ns n = (i : ℕ) → i < n → at ns i < 2 ^ 64
 
@@ -62,7 +63,7 @@ abbrev pub numbersAfter : Reading numbered → List ℕ → List ℕ
 numbersAfter (done zs n t) lent = map pattern zs ++ drop 42 lent
 numbersAfter (refused y n t) lent = lent
 
--- the lent numbers, by the answer of crate navic's reader
+-- the lent numbers, by the answer of crate navic's reader. (For the contract of the private function `lend`.)
 abbrev pub numbersBy : navic.Reading → Beside → List ℕ → List ℕ
 numbersBy (reading.Done r q) b lent = patterns (numbersOf r b) ++ drop 42 lent
 numbersBy reading.Length b lent = lent
@@ -80,9 +81,9 @@ writtenOf zs room =
     record { refusal = writingOf numbered zs room; «first_bit» = pick (eqb (writingOf numbered zs room) 8) (faultFrom zs) 0 }
 
 -- ---- pairing
--- 42 numbers, each within its field
+-- 42 numbers, those of the layout each within its field; what stands behind them is not counted (01, 11: "nothing beside it counted")
 unfoldable pub fitting : List ℤ → Bool
-fitting zs = both (eqb (length zs) 42) (eqb (faultFrom zs) 0)
+fitting zs = both (eqb (length zs) 42) (eqb (faultIn (rowsIn zs) zs) 0)
 
 -- the record of such numbers
 unfoldable pub recordOf : List ℤ → Record
@@ -106,7 +107,7 @@ countedFrom n = record { refusal = countedNumber (countOf (record { 0 = n })); t
 abbrev pub nearestRefusal : List ℕ → ℕ → ℕ
 nearestRefusal coded room = pick (eqb (length coded) 584) (pick (leb 286 room) (pick (atMost 1 coded) 0 3) 2) 1
 
-unfoldable pub nearestOf : List ℕ → ℕ → Nearest
+unfoldable pub nearestOf : List ℕ → ℕ → Decoded
 nearestOf coded room =
     record {
       refusal = nearestRefusal coded room;

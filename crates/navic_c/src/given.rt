@@ -4,9 +4,10 @@ ghost use lib.ListN.{length, drop};
 ghost use mir.Syntax.{w64};
 ghost use mir.Val.{toZ};
 ghost use Rattle.bits.specs.Lists.{atMost};
+ghost use Rattle.fields.specs.Fields.{faultIn};
 ghost use Rattle.message.specs.Numbers.{nat};
 ghost use Rattle.navic.specs.Family.{symbolsOf};
-ghost use Rattle.navic_c.specs.Numbers.{layoutIn, idAbove, late, faultFrom, bodyFrom, refusal, beside, numbered};
+ghost use Rattle.navic_c.specs.Numbers.{layoutIn, rowsIn, idAbove, late, faultFrom, bodyFrom, refusal, beside, numbered};
 ghost use Rattle.navic_c.specs.Calls.{int64, Words, fitting, recordOf};
 use crate::Written;
 use crate::lent::copy;
@@ -73,6 +74,14 @@ fn rest_zero(all: &[u64], from: usize) -> bool
         i += 1;
     }
     true
+}
+
+// The first bit of the lowest field that does not hold its number; else 0.
+fn field_fault(all: [u64; 42]) -> usize
+    requires { ⌜ Words all ⌝ }
+    ensures { λ r. ⌜ r ≡ faultIn (rowsIn (int64 all)) (int64 all) ⌝ }
+{
+    fields::fault(layout(all), all)
 }
 
 // The first bit of the lowest field that does not hold its number; 293 if only a number behind the layout's is not 0; else 0.
@@ -146,7 +155,7 @@ pub fn fits(numbers: &[u64]) -> bool
     ensures { λ r. ⌜ r ≡ fitting (int64 (now (numbers .entry))) ⌝ }
 {
     if numbers.len() == 42 {
-        return fault(forty_two(numbers)) == 0;
+        return field_fault(forty_two(numbers)) == 0;
     }
     false
 }

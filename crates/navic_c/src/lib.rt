@@ -15,7 +15,7 @@ use weektime::Towc;
 mod given;
 mod lent;
 
-// What the writer answers: the paper's number, and beside 8 the first bit of the lowest field at fault.
+// What the writer answers: the paper's number, or 1 for a list that is not of 42 numbers; and beside 8 the first bit of the lowest field at fault.
 #[repr(C)]
 pub struct Written {
     pub refusal: u32,
@@ -38,7 +38,7 @@ pub struct Counted {
 
 // What the decoder alone answers: 0, 1, 2 or 3, and the corrected count.
 #[repr(C)]
-pub struct Nearest {
+pub struct Decoded {
     pub refusal: u32,
     pub corrected: u32,
 }
@@ -156,30 +156,30 @@ pub extern "C" fn navic_count_in(second: u32) -> Counted
 
 // The word nearest to 584 coded symbols, its 286 bits a byte each, and how many symbols its code differs in.
 #[no_mangle]
-pub extern "C" fn navic_nearest(coded: &[u8], word: &mut [u8]) -> Nearest
+pub extern "C" fn navic_nearest(coded: &[u8], word: &mut [u8]) -> Decoded
     ensures { λ r. ⌜ r ≡ nearestOf (now (coded .entry)) (length (now (word .entry))) ⌝ }
     ensures { λ _. ⌜ now (word .exit) ≡ nearestInto (now (coded .entry)) (now (word .entry)) ⌝ }
 {
     if coded.len() != 584 {
-        return Nearest {
+        return Decoded {
             refusal: 1,
             corrected: 0,
         };
     }
     if word.len() < 286 {
-        return Nearest {
+        return Decoded {
             refusal: 2,
             corrected: 0,
         };
     }
     if framing::clean(1, coded) {
         let corrected = lent::decode(coded, word);
-        return Nearest {
+        return Decoded {
             refusal: 0,
             corrected,
         };
     }
-    Nearest {
+    Decoded {
         refusal: 3,
         corrected: 0,
     }

@@ -1,7 +1,8 @@
 -- 42 of them, and no fault. Assumes nothing.
 use mathlib.Core.Path.{refl, ap, _∙_}
 use borrow.Author.Needs.{needs}
-use Rattle.navic_c.specs.Numbers.{faultFrom}
+use Rattle.fields.specs.Fields.{faultIn}
+use Rattle.navic_c.specs.Numbers.{rowsIn}
 use Rattle.navic_c.specs.Calls.{int64}
 use Rattle.navic_c.proofs.Judged.{fitting-as, not-fitting}
 use Rattle.navic_c.proofs.given.fits.Statement.{statement}
@@ -10,17 +11,17 @@ use Rattle.navic_c.proofs.given.fits.Tie as tie
 forty-two-requires : tie.Need-forty-two-requires
 forty-two-requires c κs = search needs
 
-fault-requires : tie.Need-fault-requires
-fault-requires c κs = c .forty-two .ensures .1
+field-fault-requires : tie.Need-field-fault-requires
+field-fault-requires c κs = c .forty-two .ensures .1
 
 returns : tie.Need-returns
 returns c =
     let taken = c .before .before in
     let ns = taken .before .before .args .numbers .now in
-    fitting-as ns (taken .if1 .taken) (c .fault .ensures ∙ ap (λ l. faultFrom (int64 l)) (c .before .forty-two .ensures .0)) refl
+    fitting-as ns (taken .if1 .taken) (c .field-fault .ensures ∙ ap (λ l. faultIn (rowsIn (int64 l)) (int64 l)) (c .before .forty-two .ensures .0)) refl
 
 returns-2 : tie.Need-returns-2
 returns-2 c = not-fitting (c .before .before .args .numbers .now) (c .if1 .left)
 
 pub fits-spec : {M : Type 1} → statement M
-fits-spec = tie.close (tie.spec forty-two-requires fault-requires returns returns-2)
+fits-spec = tie.close (tie.spec forty-two-requires field-fault-requires returns returns-2)
