@@ -6,14 +6,15 @@ use mathlib.Core.List.{List, [], _∷_}
 use Prim.Native.Nat.{ℕ, _+_, _-_, _*_, _/_, _%_, _<_, _≤_, min}
 use native.Mathlib.Omega.{arith}
 use borrow.Author.Tests.{lt-ltb, le-ltb, ne-eqb}
-use Rattle.bits.proofs.Fill.{Put}
+use lib.ListN.{set}
+use Rattle.bits.proofs.Fill.{put-more}
 use Rattle.bits.proofs.Test.{agree, bit-cases}
 use Rattle.bits.specs.Lists.{at}
 use Rattle.convolution.proofs.Coded.{price-le}
 use Rattle.convolution.proofs.Survivor.{toll-le}
 use Rattle.convolution.specs.Code.{price}
 use Rattle.convolution.specs.Trellis.{out1, out2, Pair, toll, via, better, choice}
-use Rattle.nearest.specs.Steps.{secondLess, Tolls, Under}
+use Rattle.nearest.specs.Steps.{secondLess, Tolls, Halves, Under}
 
 -- ---- the mark of a comparison
 pub mark-one : (a b n : ℕ) → n ≡ min a b → (n ≡ a → ⊥) → 1 ≡ secondLess a b
@@ -152,12 +153,21 @@ row-at p x y start i table h w e l =
     let b : (8 * min x p + min y p) % 8 ≡ min y p = omega arith in
     rw e (rw (a, b, toll-min p x y) at (w .each (8 * min x p + min y p) i (omega arith) (omega arith) l))
 
+-- the values that a turn puts behind the halves so far
+pub halves-more : (f : ℕ → ℕ) (n a b : ℕ) (even odd : List ℕ) → n < 32 → a ≡ f (2 * n) → b ≡ f (2 * n + 1) → Halves f n even odd
+    → Halves f (n + 1) (set even n a) (set odd n b)
+halves-more f n a b even odd h p q w =
+    record {
+      evens = put-more _ _ _ n _ _ _ (omega arith) h p (w .evens);
+      odds = put-more _ _ _ n _ _ _ (omega arith) h q (w .odds);
+    }
+
 -- what a turn of the step's loop finds: the butterflies below j are done
-pub record Turn (p x y : ℕ) (m : List ℕ) (start : ℕ) (next₀ taken₀ next taken : List ℕ) (j : ℕ) : Type 0 where
+pub record Turn (p x y : ℕ) (m : List ℕ) (start : ℕ) (m0 m1 k0 k1 : List ℕ) (j : ℕ) : Type 0 where
   pub upto : j ≤ 32
   pub row : start ≡ 32 * (8 * min x p + min y p)
-  pub nexts : Put (better (at m) (toll p (x, y))) 0 (2 * j) next₀ next
-  pub marks : Put (choice (at m) (toll p (x, y))) 0 (2 * j) taken₀ taken
+  pub nexts : Halves (better (at m) (toll p (x, y))) j m0 m1
+  pub marks : Halves (choice (at m) (toll p (x, y))) j k0 k1
 
 -- the sums of a turn fit a byte
 pub small : (p : ℕ) (q : Pair) (j c : ℕ) (m : List ℕ) → p ≤ 7 → j < 32 → c ≡ toll p q (2 * j) → Under m (255 - 2 * p)

@@ -4,7 +4,8 @@ use mathlib.Core.Path.{_≡_}
 use mathlib.Core.List.{List}
 use Prim.Native.Nat.{ℕ, suc, _+_, _*_, _/_, _%_, _≤_, _<_}
 use lib.Dec.{ltb}
-use lib.ListN.{length}
+use lib.ListN.{length, replicate}
+use Rattle.bits.proofs.Fill.{Put}
 use Rattle.bits.specs.Lists.{at, pick}
 use Rattle.convolution.specs.Trellis.{toll, metric, mark, pairs}
 
@@ -25,6 +26,11 @@ evenToll p q j = toll p (q / 8, q % 8) (2 * j)
 -- the rows of tolls below n, 32 to a row, where the second level is at most p
 pub record Tolls (p n : ℕ) (table : List ℕ) : Type 0 where
   pub each : (q j : ℕ) → q < n → q % 8 ≤ p → j < 32 → at table (32 * q + j) ≡ evenToll p q j
+
+-- what f gives at the even places below 2 n, and at the odd ones, each in a list of 32
+pub record Halves (f : ℕ → ℕ) (n : ℕ) (even odd : List ℕ) : Type 0 where
+  pub evens : Put (λ (j : ℕ). f (2 * j)) 0 n (replicate 32 0) even
+  pub odds : Put (λ (j : ℕ). f (2 * j + 1)) 0 n (replicate 32 0) odd
 
 -- where the mark of the state s after t + 1 steps stands; and the mark
 abbrev pub markPlace : ℕ → ℕ → ℕ

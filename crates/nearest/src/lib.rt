@@ -7,7 +7,7 @@ ghost use Rattle.bits.proofs.Fill.{Put};
 ghost use Rattle.bits.specs.Lists.{at};
 ghost use Rattle.convolution.specs.Code.{price, cost};
 ghost use Rattle.convolution.specs.Trellis.{toll, better, choice, metric, pairs, decode};
-ghost use Rattle.nearest.specs.Steps.{secondLess, Fits, evenToll, Tolls, markPlace, markAt, Kept, Marked, Under, Passed};
+ghost use Rattle.nearest.specs.Steps.{secondLess, Fits, evenToll, Tolls, Halves, markPlace, markAt, Kept, Marked, Under, Passed};
 
 fn less(a: u8, b: u8) -> u8
     ensures { λ r. ⌜ r ≡ min a b ⌝ }
@@ -99,7 +99,18 @@ fn butterfly(a: u8, b: u8, c: u8, top: u8) -> Four
     Four { m0, k0, m1, k1 }
 }
 
-// One step at the levels x and y, over all states: 32 butterflies.
+// The two halves by turns: even[j] at the place 2 j, odd[j] behind it.
+fn weave(even: &[u8; 32], odd: &[u8; 32], to: &mut [u8; 64])
+    requires { ⌜ length (now to) ≡ 64 ⌝ }
+    ensures { λ _. ⌜ ((f : ℕ → ℕ) → Halves f 32 (now (even .entry)) (now (odd .entry)) → Put f 0 64 (now (to .entry)) (now (to .exit))) ⌝ }
+{
+    for j in 0..32 {
+        to[2 * j] = even[j];
+        to[2 * j + 1] = odd[j];
+    }
+}
+
+// One step at the levels x and y, over all states: 32 butterflies, their even states apart from their odd ones, which vectors do fastest, then woven.
 fn step(
     m: &[u8; 64],
     table: &[u8; 2048],
@@ -115,13 +126,19 @@ fn step(
     ensures { λ _. ⌜ Put (choice (at (now (m .entry))) (toll p (x, y))) 0 64 (now (taken .entry)) (now (taken .exit)) ⌝ }
 {
     let start = 32 * (8 * bits::wide(less(x, p)) + bits::wide(less(y, p)));
+    let mut m0 = [0u8; 32];
+    let mut m1 = [0u8; 32];
+    let mut k0 = [0u8; 32];
+    let mut k1 = [0u8; 32];
     for j in 0..32 {
         let f = butterfly(m[j], m[j + 32], table[start + j], 2 * p);
-        next[2 * j] = f.m0;
-        next[2 * j + 1] = f.m1;
-        taken[2 * j] = f.k0;
-        taken[2 * j + 1] = f.k1;
+        m0[j] = f.m0;
+        m1[j] = f.m1;
+        k0[j] = f.k0;
+        k1[j] = f.k1;
     }
+    weave(&m0, &m1, next);
+    weave(&k0, &k1, taken);
 }
 
 // Where the mark of the state s after the step t stands.

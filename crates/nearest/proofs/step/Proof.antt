@@ -3,18 +3,18 @@
 use mathlib.Core.Path.{_≡_}
 use Prim.Native.Nat.{_+_, _-_, _*_}
 use native.Mathlib.Omega.{arith}
-use Rattle.bits.proofs.Fill.{put-none, put-two}
+use Rattle.bits.proofs.Fill.{put-none}
 use Rattle.bits.specs.Lists.{at}
 use Rattle.convolution.specs.Trellis.{toll}
-use Rattle.nearest.proofs.Fly.{fly, even-metric, odd-metric, even-mark, odd-mark, row-at, Turn, small}
+use Rattle.nearest.proofs.Fly.{fly, even-metric, odd-metric, even-mark, odd-mark, row-at, Turn, halves-more, small}
 use Rattle.nearest.proofs.step.Statement.{statement}
 use Rattle.nearest.proofs.step.Tie as tie
 
 abbrev Inv-loop : tie.InvT-loop
-Inv-loop m table p x y next₀ taken₀ start j₀ next taken j = Turn p x y m start next₀ taken₀ next taken j
+Inv-loop m table p x y next taken start m0₀ m1₀ k0₀ k1₀ j₀ m0 m1 k0 k1 j = Turn p x y m start m0 m1 k0 k1 j
 
 abbrev μ-loop : tie.MeasureT-loop
-μ-loop m table p x y next₀ taken₀ start j₀ next taken j = 32 - j
+μ-loop m table p x y next taken start m0₀ m1₀ k0₀ k1₀ j₀ m0 m1 k0 k1 j = 32 - j
 
 -- the toll that a turn reads
 toll-in : (c : tie.In-loop Inv-loop μ-loop)
@@ -52,8 +52,8 @@ loop-holds c =
     record {
       upto = omega arith;
       row = omega (arith, c .before .before .wide .ensures, c .before .before .before .less .ensures, c .wide2 .ensures, c .before .less2 .ensures);
-      nexts = put-none _ _ _;
-      marks = put-none _ _ _;
+      nexts = record { evens = put-none _ _ _; odds = put-none _ _ _ };
+      marks = record { evens = put-none _ _ _; odds = put-none _ _ _ };
     }
 
 element-copy-out-butterfly : tie.Need-element-copy-out-butterfly Inv-loop μ-loop
@@ -80,35 +80,17 @@ butterfly-requires c κs =
     let a = c .before .before .before .before .before .before .before .before .before in
     small _ _ _ _ (a .args .m .now) (a .pre .0 .0) (i .loop-test .taken) (toll-in i) (a .pre .0 .2)
 
-mul-next : tie.Need-mul-next Inv-loop μ-loop
-mul-next c = omega arith
+array-write-m0 : tie.Need-array-write-m0 Inv-loop μ-loop
+array-write-m0 c = omega arith
 
-element-write-next : tie.Need-element-write-next Inv-loop μ-loop
-element-write-next c = omega arith
+array-write-m1 : tie.Need-array-write-m1 Inv-loop μ-loop
+array-write-m1 c = omega arith
 
-mul-next-2 : tie.Need-mul-next-2 Inv-loop μ-loop
-mul-next-2 c = omega arith
+array-write-k0 : tie.Need-array-write-k0 Inv-loop μ-loop
+array-write-k0 c = omega arith
 
-add-next : tie.Need-add-next Inv-loop μ-loop
-add-next c = omega arith
-
-element-write-next-2 : tie.Need-element-write-next-2 Inv-loop μ-loop
-element-write-next-2 c = omega arith
-
-mul-taken : tie.Need-mul-taken Inv-loop μ-loop
-mul-taken c = omega arith
-
-element-write-taken : tie.Need-element-write-taken Inv-loop μ-loop
-element-write-taken c = omega arith
-
-mul-taken-2 : tie.Need-mul-taken-2 Inv-loop μ-loop
-mul-taken-2 c = omega arith
-
-add-taken : tie.Need-add-taken Inv-loop μ-loop
-add-taken c = omega arith
-
-element-write-taken-2 : tie.Need-element-write-taken-2 Inv-loop μ-loop
-element-write-taken-2 c = omega arith
+array-write-k1 : tie.Need-array-write-k1 Inv-loop μ-loop
+array-write-k1 c = omega arith
 
 add-j : tie.Need-add-j Inv-loop μ-loop
 add-j c = omega arith
@@ -125,14 +107,23 @@ loop-again c =
     record {
       upto = omega arith;
       row = v .row;
-      nexts = put-two _ _ _ _ _ _ (omega arith) (even-metric f (g .0 .0)) (odd-metric f (g .1 .0)) (v .nexts);
-      marks = put-two _ _ _ _ _ _ (omega arith) (even-mark f (g .0 .1)) (odd-mark f (g .1 .1)) (v .marks);
+      nexts = halves-more _ _ _ _ _ _ (i .loop-test .taken) (even-metric f (g .0 .0)) (odd-metric f (g .1 .0)) (v .nexts);
+      marks = halves-more _ _ _ _ _ _ (i .loop-test .taken) (even-mark f (g .0 .1)) (odd-mark f (g .1 .1)) (v .marks);
     }
+
+weave-requires : tie.Need-weave-requires Inv-loop μ-loop
+weave-requires c κs = omega arith
+
+weave-requires-2 : tie.Need-weave-requires-2 Inv-loop μ-loop
+weave-requires-2 c κs = omega arith
 
 returns : tie.Need-returns Inv-loop μ-loop
 returns c =
-    let e : c .before .loop .j ≡ 32 = omega arith in
-    (rw e at (c .before .loop .inv .nexts), rw e at (c .before .loop .inv .marks))
+    let w = c .before .before .before .before in
+    let at-loop = w .before .before .before .before .before in
+    let e : at-loop .loop .j ≡ 32 = omega arith in
+    let v = rw e at (at-loop .loop .inv) in
+    (w .weave .ensures _ (v .nexts), c .weave2 .ensures _ (v .marks))
 
 pub step-spec : {M : Type 1} → statement M
 step-spec =
@@ -155,17 +146,13 @@ step-spec =
     element-copy-out-butterfly-3
     mul-butterfly
     butterfly-requires
-    mul-next
-    element-write-next
-    mul-next-2
-    add-next
-    element-write-next-2
-    mul-taken
-    element-write-taken
-    mul-taken-2
-    add-taken
-    element-write-taken-2
+    array-write-m0
+    array-write-m1
+    array-write-k0
+    array-write-k1
     add-j
     loop-less
     loop-again
+    weave-requires
+    weave-requires-2
     returns)
