@@ -252,7 +252,8 @@ typedef struct navic_paired {
 
 /*
  * Pairs a record of subframe 1 with one of subframe 2. 11 unless each is 42 numbers, the first of subframe 1 and
- * the second of subframe 2, each alone has no fault of 7 or 8, and toc equals toe.
+ * the second of subframe 2, each alone has no fault of 7 or 8, and toc equals toe. Numbers behind the last row are
+ * not counted.
  *
  * Hazard: an idle subframe 1 and an idle subframe 2 come with a valid check and read as data, with toc = toe, so
  * they pair. Leave records out for which navic_is_idle_pattern is true.
@@ -260,7 +261,8 @@ typedef struct navic_paired {
 navic_paired navic_pair(const int64_t *first, size_t first_len, const int64_t *second, size_t second_len);
 
 /* Whether a record of subframe 1 or 2 is the idle pattern: alert set, and alternating bits from 0 up to bit 262,
- * in subframe 1 from bit 41 and in subframe 2 from bit 31. False for everything else. */
+ * in subframe 1 from bit 41 and in subframe 2 from bit 31. False for everything else, and for numbers outside their
+ * fields. Numbers behind the last row and the range of TOWC are not counted. */
 bool navic_is_idle_pattern(const int64_t *numbers, size_t numbers_len);
 
 /* ---- walking over a recording */

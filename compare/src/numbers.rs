@@ -180,24 +180,36 @@ pub fn symbols(numbers: &[i64]) -> Option<[u8; SUBFRAME_SYMBOLS]> {
     }
 }
 
+/// The layout's numbers alone, 0 behind them: pairing counts nothing beside a record.
+fn alone(numbers: &[i64]) -> Option<Numbers> {
+    let mut own = *<&Numbers>::try_from(numbers).ok()?;
+    let count = rows(case_of(own[ID_AT], own[MESSAGE_AT])).len();
+    own[count..].fill(0);
+    Some(own)
+}
+
 /// Pairing: 11 and +0 unless each list alone is a record without a fault of 7 or 8 and the two pair.
 pub fn paired(first: &[i64], second: &[i64]) -> (u32, [f64; EPHEMERIS]) {
-    let sound = |numbers: &[i64]| match <&Numbers>::try_from(numbers) {
-        Ok(numbers) => !towc_is_outside(numbers) && fault(numbers) == 0,
-        Err(_) => false,
+    let sound = |numbers: &[i64]| {
+        let own = alone(numbers)?;
+        let (record, _) = typed(&own)?;
+        (!towc_is_outside(&own) && fault(&own) == 0).then_some(record)
     };
-    match (typed(first), typed(second)) {
-        (Some((one, _)), Some((two, _))) if sound(first) && sound(second) => pair(&one, &two),
+    match (sound(first), sound(second)) {
+        (Some(one), Some(two)) => pair(&one, &two),
         _ => (11, [0.0; EPHEMERIS]),
     }
 }
 
-/// Whether numbers are the idle pattern of subframe 1 or 2. Those with a fault of 8 are no record, so
+/// Whether numbers are the idle pattern of subframe 1 or 2. Those with a field outside its width are no record, so
 /// they are not (docs/DECISIONS.md); TOWC doesn't matter as long as its field holds it. The documents leave
 /// this open, and `plain::is_idle_pattern` by itself doesn't look at TLM, TOWC, AutoNav, bit 30 and the week.
 pub fn idle(numbers: &[i64]) -> bool {
-    match (<&Numbers>::try_from(numbers), typed(numbers)) {
-        (Ok(all), Some((record, _))) => fault(all) == 0 && is_idle_pattern(&record),
-        _ => false,
+    let Some(own) = alone(numbers) else {
+        return false;
+    };
+    match typed(&own) {
+        Some((record, _)) => fault(&own) == 0 && is_idle_pattern(&record),
+        None => false,
     }
 }

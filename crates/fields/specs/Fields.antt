@@ -39,15 +39,16 @@ bodyOf [] zs = []
 bodyOf (r ∷ rs) zs = fieldBits (width r) (getD zs 0 (pos 0)) ++ bodyOf rs (drop 1 zs)
 
 -- ---- the range check
--- whether the field holds z: a signed one of w bits from -2 ^ (w - 1) to 2 ^ (w - 1) - 1 (`mag` of n and of -(n + 1) is n), another from 0 to 2 ^ w - 1
 abbrev pub inUnsigned : ℕ → ℤ → Bool
 inUnsigned w (pos n) = ltb n (2 ^ w)
 inUnsigned w (negsuc n) = false
 
+-- whether the field holds z: a signed one of w bits from -2 ^ (w - 1) to 2 ^ (w - 1) - 1 (`mag` of n and of -(n + 1) is n), another from 0 to 2 ^ w - 1
 unfoldable pub holds : Row → ℤ → Bool
 holds r z = pick (signed r) (ltb (mag z) (2 ^ (width r - 1))) (inUnsigned (width r) z)
 
--- the first bit of the first row that does not hold its number, and 0 where all do
+-- the first bit of the first row that does not hold its number, and 0 where all do; rows lie in order, so it is the lowest such field
+-- (`fault-first` of proofs/Faults)
 unfoldable pub faultIn : List Row → List ℤ → ℕ
 faultIn [] zs = 0
 faultIn (r ∷ rs) zs = pick (holds r (getD zs 0 (pos 0))) (faultIn rs (drop 1 zs)) (first r)

@@ -440,7 +440,10 @@ fn pairs_only_numbers_within_their_fields() {
     let (one, mut two) = (first.numbers(), second.numbers());
     assert_eq!(calls::pair(&one, &two).refusal, 0);
     assert_eq!(calls::pair(&one[..41], &two).refusal, 11);
+    // nothing behind a record's numbers is counted
     two[NUMBERS - 1] = 1;
+    assert_eq!(calls::pair(&one, &two).refusal, 0);
+    two[0] = 256;
     let paired = calls::pair(&one, &two);
     assert_eq!(paired.refusal, 11);
     assert_eq!([paired.ephemeris.wn, paired.ephemeris.af0, paired.ephemeris.i0].map(f64::to_bits), [0; 3]);
