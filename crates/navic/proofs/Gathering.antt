@@ -1,9 +1,9 @@
 -- An input gathered in pieces is gathered as a whole: its symbols are kept from the first place on, and all are counted.
 -- Assumes nothing.
-use mathlib.Core.Path.{_≡_, refl, sym, ap, _∙_}
+use mathlib.Core.Path.{_≡_, refl, sym, ap, ap₂, _∙_}
 use mathlib.Core.Bool.{Bool, true, false}
-use mathlib.Core.List.{List, [], _∷_, _++_}
-use Prim.Native.Nat.{ℕ, _+_, _-_, _^_, _≤_, _<_, min}
+use mathlib.Core.List.{List, [], _∷_, _++_, append-nil}
+use Prim.Native.Nat.{ℕ, zero, suc, _+_, _-_, _^_, _≤_, _<_, min}
 use native.Mathlib.Decide.{ℕ-discrete, decLe}
 use native.Mathlib.Nat.{add-zero}
 use native.Mathlib.Numerals.{add-one}
@@ -11,7 +11,7 @@ use native.Mathlib.Omega.{arith}
 use borrow.Author.Tests.{eq-eqb, ne-eqb}
 use lib.Dec.{eqb}
 use lib.ListN.{length, set, take, replicate, length-append, length-set, length-replicate}
-use lib.Seq.{set-out, set-append-seam, take-suc, append-snoc}
+use lib.Seq.{set-out, set-append-seam, take-suc, take-at, append-snoc}
 use Rattle.bits.specs.Lists.{at, pick}
 use Rattle.navic.specs.Input.{symbolOf, symbolsIn, keptAfter, countAfter, Gathered, lineAfter}
 use Rattle.navic.specs.Navic.{family, answer, lineOf}
@@ -91,19 +91,45 @@ pub gathered-long : (k bytes kept : List ℕ) (n count : ℕ) → Gathered k n b
 gathered-long k bytes kept n count g = ap length (g .keeps) ∙ kept-long k n (symbolsIn bytes)
 
 -- ---- a whole input
--- what stands from a place on gives way to as many symbols
-kept-whole : (p r s : List ℕ) → length r ≡ length s → keptAfter (p ++ r) (length p) s ≡ p ++ s
+-- what stands from a place on gives way to as many symbols, and what stands behind it stays
+kept-front : (p r q s : List ℕ) → length r ≡ length s → keptAfter (p ++ (r ++ q)) (length p) s ≡ p ++ (s ++ q)
 unfolding keptAfter
-kept-whole p [] [] e = refl
-kept-whole p (y ∷ r) [] e = absurd (omega arith)
-kept-whole p [] (x ∷ s) e = absurd (omega arith)
-kept-whole p (y ∷ r) (x ∷ s) e =
+kept-front p [] q [] e = refl
+kept-front p (y ∷ r) q [] e = absurd (omega arith)
+kept-front p [] q (x ∷ s) e = absurd (omega arith)
+kept-front p (y ∷ r) q (x ∷ s) e =
     let one : length p + 1 ≡ length (p ++ (x ∷ [])) = omega (arith, length-append p (x ∷ [])) in
-    rw (set-append-seam p y r x, ← append-snoc p x r, one) (kept-whole (p ++ (x ∷ [])) r s (omega arith) ∙ append-snoc p x s)
+    rw (set-append-seam p y (r ++ q) x, ← append-snoc p x (r ++ q), one) (kept-front (p ++ (x ∷ [])) r q s (omega arith) ∙ append-snoc p x (s ++ q))
+
+zeros-apart : (a b : ℕ) → replicate {A = ℕ} (a + b) 0 ≡ replicate a 0 ++ replicate b 0
+zeros-apart zero b = let e : 0 + b ≡ b = omega arith in ap (λ (n : ℕ). replicate {A = ℕ} n 0) e
+zeros-apart (suc a) b = let e : suc a + b ≡ suc (a + b) = omega arith in ap (λ (n : ℕ). replicate {A = ℕ} n 0) e ∙ ap (λ (l : List ℕ). 0 ∷ l) (zeros-apart a b)
+
+-- symbols for which there is room are kept as they came
+kept-first : (n : ℕ) (s : List ℕ) → length s ≤ n → keptAfter (replicate n 0) 0 s ≡ s ++ replicate (n - length s) 0
+kept-first n s h =
+    let e : n ≡ length s + (n - length s) = omega arith in
+    ap (λ (l : List ℕ). keptAfter l 0 s) (ap (λ (k : ℕ). replicate k 0) e ∙ zeros-apart (length s) (n - length s))
+    ∙ kept-front [] (replicate (length s) 0) (replicate (n - length s) 0) s (length-replicate {A = ℕ} (length s) 0)
 
 -- 600 symbols are kept as they came
 pub kept-600 : (s : List ℕ) → length s ≡ 600 → keptAfter (replicate 600 0) 0 s ≡ s
-kept-600 s e = kept-whole [] (replicate 600 0) s (length-replicate {A = ℕ} 600 0 ∙ sym e)
+kept-600 s e =
+    let z : 600 - length s ≡ 0 = omega arith in
+    kept-first 600 s (omega arith) ∙ ap (λ (k : ℕ). s ++ replicate k 0) z ∙ append-nil s
+
+-- and an input for which there is room, of any number of symbols, is what stands at the front
+pub gathered-part : (n : ℕ) → n < 2 ^ 64 - 1 → (bytes kept : List ℕ) (count : ℕ) → Gathered (replicate n 0) 0 bytes kept count → count ≤ n
+    → take count kept ≡ symbolsIn bytes
+unfolding countAfter
+gathered-part n few bytes kept count g h =
+    let s = symbolsIn bytes in
+    let all : count ≡ length s = omega (arith, g .counts) in
+    ap₂ take all (g .keeps ∙ kept-first n s (omega arith)) ∙ take-at s (replicate (n - length s) 0) (length s) refl
+
+-- what is gathered is one outcome only
+pub gathered-one : {k bytes kept later : List ℕ} {n count last : ℕ} → Gathered k n bytes kept count → Gathered k n bytes later last → (kept ≡ later) × (count ≡ last)
+gathered-one g h = (g .keeps ∙ sym (h .keeps), g .counts ∙ sym (h .counts))
 
 -- and the count tells whether there were 600
 pub count-600 : (s : List ℕ) → countAfter 0 s ≡ 600 → length s ≡ 600

@@ -57,7 +57,8 @@ unfolding answer
 read-refuses s room =
     subst (Given (readerConditions family s room)) (sym (number-kept (any.readingOf family s room))) (reader-ordered family s room)
 
--- the numbers beside the reader's answer: zeros beside 1, 2, 3, 4 and 10; beside 0, 5, 6 and 7 the count and the polarity of the nearest word
+-- the numbers beside the reader's answer: beside 0, 5, 6 and 7 the count and the polarity of the nearest word; 1, 2, 3, 4 and 10 carry none, and
+-- `qualityIn` reads zeros there
 abbrev pub ReadBeside : List ℕ → Reading → Type 0
 ReadBeside s (reading.Done r q) = Taken s (q .«turned_over») (receiveOf 1 s .word) (q .corrected) (agreesOf (receiveOf 1 s .word))
 ReadBeside s reading.Length = Unit {0}
