@@ -1,7 +1,7 @@
 //! An independent reader and writer of the NavIC (IRNSS) L5 SPS navigation message, written plainly
 //! from the documents alone, so that another implementation can be compared with it.
 //!
-//! "01" below is `01-scope.md`, "003" the SPS ICD, "004" the messaging ICD, "ruling n" is `RULINGS.md`.
+//! "01" below is `01-scope.md`, "003" the SPS ICD, "004" the messaging ICD, DECISIONS is docs/DECISIONS.md.
 //! Places of bits are counted from 1, as the documents do. Bits and symbols are bytes of value 0 or 1.
 //! Every public function is total: it gives an answer for every input.
 
@@ -28,7 +28,7 @@ pub const BODY_BITS: usize = 262;
 pub const CHECK_BITS: usize = 24;
 /// Bytes the reader puts into its room (01, after the table of numbers: "the first 36 bytes lent").
 pub const READ_ROOM: usize = 36;
-/// The longest recording (01, the walk: "up to 65,536 symbols"; ruling 12).
+/// The longest recording (01, the walk: "up to 65,536 symbols"; DECISIONS).
 pub const RECORDING_MOST: usize = 65_536;
 /// First place of a message's 220 data bits (01, The fields: "data 37-256").
 pub const DATA_FIRST: usize = 37;
@@ -91,7 +91,7 @@ impl Number for bool {
     fn to_number(&self) -> i64 {
         i64::from(*self)
     }
-    /// A flag holds 0 and 1 and nothing else (ruling 15).
+    /// A flag holds 0 and 1 and nothing else (DECISIONS).
     fn from_number(number: i64) -> Option<bool> {
         match number {
             0 => Some(false),
@@ -200,7 +200,7 @@ kind! {
 }
 
 kind! {
-    /// Type 5 (01, The fields: "Type 5"; 003, Table 15 and Figure 15; ruling 1 for IODI and the spare).
+    /// Type 5 (01, The fields: "Type 5"; 003, Table 15 and Figure 15; DECISIONS for IODI and the spare).
     /// Its fifteen pairs stand beside the record; their rows are `PAIRS`.
     Type5, TYPE5, [head: Head, subframe: Which] {
         mask: u64, 37, 10, 0;
@@ -233,7 +233,7 @@ kind! {
 }
 
 kind! {
-    /// Type 9 (01, The fields: "Types 7, 9, 11"; 003, Table 17 and Figure 17; ruling 7 for the spare).
+    /// Type 9 (01, The fields: "Types 7, 9, 11"; 003, Table 17 and Figure 17; DECISIONS for the spare).
     Type9, TYPE9, [head: Head, subframe: Which] {
         a0utc: i64, 37, 16, -35;
         a1utc: i64, 53, 13, -51;
@@ -279,7 +279,7 @@ kind! {
 }
 
 kind! {
-    /// Type 26 (01, The fields: "Type 26"; 003, Table 21 and Figure 21; ruling 7 for the spare).
+    /// Type 26 (01, The fields: "Type 26"; 003, Table 21 and Figure 21; DECISIONS for the spare).
     Type26, TYPE26, [head: Head, subframe: Which] {
         a0utc: i64, 37, 16, -35;
         a1utc: i64, 53, 13, -51;
@@ -303,7 +303,7 @@ kind! {
 
 kind! {
     /// The null message (01, The fields: "Every message with ID 0 is the null message and keeps its 220
-    /// bits"; 003, Table 22; rulings 5 and 16). The 220 bits stand beside it.
+    /// bits"; 003, Table 22; DECISIONS). The 220 bits stand beside it.
     Null, NULL, [head: Head, subframe: Which] {
         prn: u64, 257, 6, 0;
     }
@@ -360,7 +360,7 @@ const CHECK: Row = Row { name: "check", first: 263, width: CHECK_BITS, signed: f
 // The record (01, "The fields")
 // ---------------------------------------------------------------------------------------------
 
-/// Whether a message was in subframe 3 or 4, with no third value (01, The fields; ruling 6).
+/// Whether a message was in subframe 3 or 4, with no third value (01, The fields; DECISIONS).
 #[derive(Clone, Copy, Debug, PartialEq, Eq)]
 pub enum Which {
     Three,
@@ -396,7 +396,7 @@ pub enum Case {
 }
 
 /// What stands beside a record (01, The fields: "Bits that need an array stand beside the record, first
-/// bit highest; so may type 5's pairs"; ruling 7): 220 bits in 28 bytes, the low four bits of the last
+/// bit highest; so may type 5's pairs"; DECISIONS): 220 bits in 28 bytes, the low four bits of the last
 /// byte unused, and fifteen GIVEI and fifteen GIVD numbers. What the case doesn't use is 0.
 #[derive(Clone, Debug, PartialEq, Eq)]
 pub struct Beside {
@@ -612,7 +612,7 @@ impl Record {
     }
 
     /// Every row of the record with its number, and those of the pairs beside it if the case is type 5
-    /// (ruling 8: "the pairs of type 5 count as fields at their places").
+    /// (DECISIONS: "the pairs of type 5 count as fields at their places").
     fn fields_with_pairs(&self, beside: &Beside) -> Vec<(Row, i64)> {
         let mut fields = self.fields();
         if self.case().uses_pairs() {
@@ -954,10 +954,10 @@ fn check_agrees(word: &Word) -> bool {
 }
 
 // ---------------------------------------------------------------------------------------------
-// Idle (01, Idle; 003, 5.10.3; rulings 2, 3 and 4)
+// Idle (01, Idle; 003, 5.10.3; DECISIONS)
 // ---------------------------------------------------------------------------------------------
 
-/// A row of 5.10.3's table (ruling 3): the check is sent valid or spoiled.
+/// A row of 5.10.3's table (DECISIONS): the check is sent valid or spoiled.
 #[derive(Clone, Copy, Debug, PartialEq, Eq)]
 pub struct IdleRow {
     pub subframe_id: i64,
@@ -967,7 +967,7 @@ pub struct IdleRow {
     pub spoiled: bool,
 }
 
-/// 5.10.3 of 003, as ruling 3 writes it.
+/// 5.10.3 of 003, as DECISIONS has it.
 pub const IDLE: [IdleRow; 4] = [
     IdleRow { subframe_id: 0, alert: 1, first: 41, last: 262, spoiled: false },
     IdleRow { subframe_id: 1, alert: 1, first: 31, last: 262, spoiled: false },
@@ -989,13 +989,13 @@ fn pattern_bit(row: &IdleRow, place: usize) -> u8 {
     ((place - row.first) % 2) as u8
 }
 
-/// Whether a word whose check disagrees is idle (01, the table of numbers, 5; rulings 2 and 3).
+/// Whether a word whose check disagrees is idle (01, the table of numbers, 5; DECISIONS).
 fn idle_when_check_disagrees(word: &Word) -> bool {
     IDLE.iter().any(|row| row.spoiled && idle_row_fits_word(row, word))
 }
 
 /// Whether a record of subframe 1 or 2 is 003's idle pattern: alert set, bits from 41 or 31 to 262
-/// alternating from 0 (ruling 4). A message record gives false. TLM, TOWC, AutoNav, bit 30 and
+/// alternating from 0 (DECISIONS). A message record gives false. TLM, TOWC, AutoNav, bit 30 and
 /// subframe 1's week don't count; a number outside its width never is the pattern's.
 pub fn is_idle_pattern(record: &Record) -> bool {
     let is_message = record.which().is_some();
@@ -1003,7 +1003,7 @@ pub fn is_idle_pattern(record: &Record) -> bool {
 }
 
 /// Whether the row of 5.10.3 for the record's subframe fits the record and what stands beside it, for
-/// all four subframes (ruling 3: "tells whether a row fits"). What the case doesn't use isn't counted.
+/// all four subframes (DECISIONS: "tells whether a row fits"). What the case doesn't use isn't counted.
 pub fn idle_row_fits(record: &Record, beside: &Beside) -> bool {
     let id = record.subframe() as i64 - 1;
     IDLE.iter().any(|row| {
@@ -1040,12 +1040,12 @@ fn towc_is_outside(towc: u64) -> bool {
     !(1..=50_400).contains(&towc)
 }
 
-/// The first bit of the lowest field, by place, that is outside its width (01, 8; ruling 8).
+/// The first bit of the lowest field, by place, that is outside its width (01, 8; DECISIONS).
 fn lowest_outside(fields: &[(Row, i64)]) -> Option<usize> {
     fields.iter().filter(|(row, number)| !fits(row, *number)).map(|(row, _)| row.first).min()
 }
 
-/// Whether a bit or number beside the record that its case doesn't use is not 0 (01, 8; ruling 7).
+/// Whether a bit or number beside the record that its case doesn't use is not 0 (01, 8; DECISIONS).
 fn unused_is_set(case: Case, beside: &Beside) -> bool {
     let pairs_set = beside.givei.iter().any(|&it| it != 0) || beside.givd.iter().any(|&it| it != 0);
     let data_set = beside.data.iter().any(|&it| it != 0);
@@ -1053,7 +1053,7 @@ fn unused_is_set(case: Case, beside: &Beside) -> bool {
     (pairs_set && !case.uses_pairs()) || (data_set && !case.uses_data()) || low_bits_set
 }
 
-/// Refusal 8's number, if there is such a fault (01, the table of numbers, 8; ruling 8).
+/// Refusal 8's number, if there is such a fault (01, the table of numbers, 8; DECISIONS).
 fn fault_8(record: &Record, beside: &Beside) -> Option<usize> {
     match lowest_outside(&record.fields_with_pairs(beside)) {
         Some(first) => Some(first),
@@ -1228,11 +1228,11 @@ pub fn symbols_of(word: &Word) -> [u8; SUBFRAME_SYMBOLS] {
 }
 
 // ---------------------------------------------------------------------------------------------
-// The program (01, "The program takes '0' and '1' from standard input"; ruling 11)
+// The program (01, "The program takes '0' and '1' from standard input"; DECISIONS)
 // ---------------------------------------------------------------------------------------------
 
 /// The line that the program prints for a standard input, without its line feed: refusal, corrected
-/// count, polarity, subframe, TOWC, message ID (01, the program; rulings 10 and 11).
+/// count, polarity, subframe, TOWC, message ID (01, the program; DECISIONS).
 pub fn line(bytes: &[u8]) -> String {
     let mut room = [0; READ_ROOM];
     let reading = read(&symbols_of_input(bytes), &mut room);
@@ -1244,7 +1244,7 @@ pub fn line(bytes: &[u8]) -> String {
     format!("{} {} {polarity} {subframe} {towc} {message_id}", reading.refusal, reading.corrected)
 }
 
-/// Line feeds skipped, '0' and '1' the symbols 0 and 1, any other byte one bad symbol (ruling 11).
+/// Line feeds skipped, '0' and '1' the symbols 0 and 1, any other byte one bad symbol (DECISIONS).
 fn symbols_of_input(bytes: &[u8]) -> Vec<u8> {
     let mut symbols = Vec::new();
     for &byte in bytes {
@@ -1316,7 +1316,7 @@ fn scaled(number: i64, exponent: i32) -> f64 {
 // ---------------------------------------------------------------------------------------------
 
 /// The first window at or after a place: number, start and end of the part handed back, and the place
-/// where the walk then stands (01, the walk; rulings 12 and 13).
+/// where the walk then stands (01, the walk; DECISIONS).
 pub fn find(recording: &[u8], from: usize) -> (u32, usize, usize, usize) {
     if recording.len() > RECORDING_MOST {
         return (1, 0, 0, 0);
@@ -1347,7 +1347,7 @@ pub fn walk(recording: &[u8]) -> Vec<(u32, usize, usize, usize)> {
 }
 
 // ---------------------------------------------------------------------------------------------
-// Time (01, Time; ruling 14)
+// Time (01, Time; DECISIONS)
 // ---------------------------------------------------------------------------------------------
 
 /// The second of the week at which the subframe with this TOWC began: (TOWC - 1) times 12; 7 and zero
@@ -1360,7 +1360,7 @@ pub fn began(towc: u64) -> (u32, u64) {
 }
 
 /// The count of the subframe in which a second of the week lies: second div 12 + 1; 7 and zero where that
-/// is outside 1 to 50,400 (ruling 14).
+/// is outside 1 to 50,400 (DECISIONS).
 pub fn count_of(second: u64) -> (u32, u64) {
     let towc = second / 12 + 1;
     if towc_is_outside(towc) {

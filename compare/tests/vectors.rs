@@ -53,7 +53,7 @@ fn number_of(row: &Row, record: &Json) -> Result<i64, String> {
     }
 }
 
-/// The record of a vector, or the name of what no record can hold (ruling 15).
+/// The record of a vector, or the name of what no record can hold (DECISIONS).
 fn record_of(vector: &Json) -> Result<(Record, Beside), String> {
     let case = Case::from_name(vector.get("case").text()).expect("a case");
     let rows = case.rows();

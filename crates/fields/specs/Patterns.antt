@@ -1,6 +1,6 @@
 -- How the code carries a field's number: as a pattern of 64 bits, of a negative number its two's complement; and how it carries the rows.
--- Nobody has to believe anything of this file: the contracts of the crates above speak of the numbers; but for `pattern`, which the contract of
--- `navic_read` (crate navic_c) names, and of which `seen` there says that C's int64_t reads it as the number. Assumes nothing.
+-- Only the calls of this crate, `message::table_numbers` and `numbersAfter` of crate navic_c cite it; `packed-body` and `pattern-fault` (Held) and
+-- `seen` (crate navic_c) tie it to the numbers, of which every other contract speaks. Assumes nothing.
 use mathlib.Core.Bool.{Bool, true, false}
 use mathlib.Core.List.{List, [], _∷_, _++_, map}
 use Prim.Native.Nat.{ℕ, _-_, _^_}

@@ -1,4 +1,5 @@
--- The idle patterns of 003, 5.10.3, and which words are idle (01, "Idle"). Bits are counted from 1. Assumes nothing.
+-- The idle patterns of 003, 5.10.3, and which words are idle once their check disagrees (01, "Idle"; that
+-- half is `readerConditions` of crate navic). Bits are counted from 1. Assumes nothing.
 use mathlib.Core.Path.{_≡_}
 use mathlib.Core.Logic.{_⊎_}
 use mathlib.Core.Bool.{Bool, true, false}
@@ -43,7 +44,7 @@ fits r word = both (eqb (at word 25 % 2) (r .1)) (alternates 0 (part word (r .2 
 unfoldable pub patternOf : List ℕ → Bool
 patternOf word = fits (rowOf word) word
 
--- whether a word is idle where its check disagrees: such a row fits, and its check is sent spoiled
+-- whether a word is idle where its check disagrees: the row of its own subframe fits, and its check is sent spoiled
 unfoldable pub idleOf : List ℕ → Bool
 idleOf word = both (rowOf word .4) (patternOf word)
 

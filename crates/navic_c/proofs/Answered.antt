@@ -35,7 +35,7 @@ use Rattle.navic.proofs.Reading.{the-type}
 use Rattle.navic_c.specs.declared.Written.{Written}
 use Rattle.navic_c.specs.declared.Decoded.{Decoded}
 use Rattle.navic_c.specs.Numbers.{padded, faultFrom, refusal, beside, numbered}
-use Rattle.navic_c.specs.Calls.{readFrom, wordAfter, numbersAfter, numbersBy, writtenOf, nearestOf, nearestInto}
+use Rattle.navic_c.specs.Calls.{readFrom, wordAfter, numbersAfter, numbersBy, writtenOf, nearestAnswer, nearestInto}
 use Rattle.navic_c.proofs.ReadAsRecords.{asNumbers, reading-same}
 
 -- ---- the writer
@@ -172,27 +172,27 @@ module _ (coded : List ℕ) (long : length coded ≡ 584) where
 module _ (coded lent : List ℕ) where
   -- the answer, and the lent bytes afterwards
   abbrev Decodes : Decoded → List ℕ → Type 0
-  Decodes r later = (r ≡ nearestOf coded (length lent)) × (later ≡ nearestInto coded lent)
+  Decodes r later = (r ≡ nearestAnswer coded (length lent)) × (later ≡ nearestInto coded lent)
 
   pub not-584 : (length coded ≡ 584 → ⊥) → Decodes (record { refusal = 1; corrected = 0 }) lent
-  unfolding nearestOf nearestInto
+  unfolding nearestAnswer nearestInto
   not-584 h = let e = ne-eqb (length coded) 584 h in (rw e refl, rw e refl)
 
   module _ (long : length coded ≡ 584) where
     pub word-room : length lent < 286 → Decodes (record { refusal = 2; corrected = 0 }) lent
-    unfolding nearestOf nearestInto
+    unfolding nearestAnswer nearestInto
     word-room h = let e = eq-eqb (length coded) 584 long in let f = lt-leb 286 (length lent) h in (rw (e, f) refl, rw (e, f) refl)
 
     module _ (enough : 286 ≤ length lent) where
       pub bad-symbol : atMost 1 coded ≡ false → Decodes (record { refusal = 3; corrected = 0 }) lent
-      unfolding nearestOf nearestInto
+      unfolding nearestAnswer nearestInto
       bad-symbol h =
           let e = eq-eqb (length coded) 584 long in
           let f = le-leb 286 (length lent) enough in
           (rw (e, f, h) refl, rw (e, f, h) refl)
 
       pub decoded : {n : ℕ} {later : List ℕ} → atMost 1 coded ≡ true → n ≡ cost 1 coded (decode 1 286 coded) → later ≡ decode 1 286 coded ++ drop 286 lent → Decodes (record { refusal = 0; corrected = n }) later
-      unfolding nearestOf nearestInto
+      unfolding nearestAnswer nearestInto
       decoded h count put =
           let e = eq-eqb (length coded) 584 long in
           let f = le-leb 286 (length lent) enough in

@@ -19,7 +19,7 @@ use Rattle.fields.specs.Patterns.{pattern}
 use Rattle.link.specs.Link.{receiveOf}
 use Rattle.navic.specs.Family.{Why, done, refused, packed, writingOf, writeInto, symbolsOf}
 use Rattle.navic_c.specs.Numbers.{numbered}
-use Rattle.navic_c.specs.Calls.{int64, readFrom, wordAfter, numbersAfter, writtenOf, nearestRefusal, nearestOf, nearestInto}
+use Rattle.navic_c.specs.Calls.{int64, readFrom, wordAfter, numbersAfter, writtenOf, nearestRefusal, nearestAnswer, nearestInto}
 use Rattle.navic_c.proofs.Lawful.{sound}
 use Rattle.navic_c.proofs.Theorems.{write-again, seen}
 
@@ -63,17 +63,17 @@ module _ (zs : List ℤ) (lent : List ℕ) where
 pub record Found (coded lent : List ℕ) : Type 0 where
   pub nearest : Nearest 1 286 coded (take 286 (nearestInto coded lent))
   pub beyond : drop 286 (nearestInto coded lent) ≡ drop 286 lent
-  pub count : nearestOf coded (length lent) .corrected ≡ differences (codedForm (take 286 (nearestInto coded lent))) coded
+  pub count : nearestAnswer coded (length lent) .corrected ≡ differences (codedForm (take 286 (nearestInto coded lent))) coded
 
-pub nearest-lent : (coded lent : List ℕ) → nearestOf coded (length lent) .refusal ≡ 0 → Found coded lent
-unfolding nearestOf nearestInto
+pub nearest-lent : (coded lent : List ℕ) → nearestAnswer coded (length lent) .refusal ≡ 0 → Found coded lent
+unfolding nearestAnswer nearestInto
 nearest-lent coded lent z =
     let e = tests (eqb (length coded) 584) (leb 286 (length lent)) (atMost 1 coded) z in
     let d = nearest-decode 1 286 coded (eqb-true (length coded) 584 (e .0)) in
     let w = decode 1 286 coded in
     let done = eq-eqb (nearestRefusal coded (length lent)) 0 z in
     let put : nearestInto coded lent ≡ w ++ drop 286 lent = rw done refl in
-    let told : nearestOf coded (length lent) .corrected ≡ cost 1 coded w = rw done refl in
+    let told : nearestAnswer coded (length lent) .corrected ≡ cost 1 coded w = rw done refl in
     let word : take 286 (nearestInto coded lent) ≡ w = ap (take 286) put ∙ take-at w (drop 286 lent) 286 (d .long) in
     record {
       nearest = subst (Nearest 1 286 coded) (sym word) d;

@@ -18,7 +18,7 @@ use Rattle.fields.specs.Patterns.{patternFault}
 use Rattle.fields.specs.Table.{rowsOf}
 use Rattle.fields.proofs.Faults.{fault-first}
 use Rattle.fields.proofs.Rules.{tiled, inside}
-use Rattle.navic_c.specs.Numbers.{layoutIn, rowsIn, idAbove, late, allZero, faultFrom, refusal, beside}
+use Rattle.navic_c.specs.Numbers.{layoutIn, rowsIn, idAbove, untimely, allZero, faultFrom, refusal, beside}
 use Rattle.navic_c.specs.Calls.{int64, Words, fitting}
 use Rattle.navic_c.proofs.Words.{fault-words, rest-words}
 
@@ -59,11 +59,11 @@ module _ (ns : List ℕ) (w : Words ns) where
   refuses-9 i = (rw (forty-two, i) refl, rw (forty-two, i) refl)
 
   module _ (i : idAbove (int64 ns) ≡ false) where
-    pub refuses-7 : late (int64 ns) ≡ true → Judged 7 0
+    pub refuses-7 : untimely (int64 ns) ≡ true → Judged 7 0
     unfolding refusal beside
     refuses-7 l = (rw (forty-two, i, l) refl, rw (forty-two, i, l) refl)
 
-    module _ (l : late (int64 ns) ≡ false) where
+    module _ (l : untimely (int64 ns) ≡ false) where
       pub refuses-8 : (n : ℕ) → n ≡ faultFrom (int64 ns) → (n ≡ 0 → ⊥) → Judged 8 n
       unfolding refusal beside
       refuses-8 n e h = let f = ne-eqb (faultFrom (int64 ns)) 0 (λ z. h (e ∙ z)) in (rw (forty-two, i, l, f) refl, rw (forty-two, i, l, f) e)

@@ -22,7 +22,7 @@ use Rattle.message.specs.Records.{layoutBy, subframeId, messageId}
 use Rattle.navic.specs.Refusals.{Given, none, here, later}
 use Rattle.navic.specs.Family.{IsBody, Lawful}
 use Rattle.navic.proofs.Instance.{clash}
-use Rattle.navic_c.specs.Numbers.{padded, numbersIn, layoutIn, rowsIn, bodyFrom, idAbove, late, allZero, faultFrom, conditions, refusal, numbered}
+use Rattle.navic_c.specs.Numbers.{padded, numbersOfBody, layoutIn, rowsIn, bodyFrom, idAbove, untimely, allZero, faultFrom, conditions, refusal, numbered}
 use Rattle.navic_c.proofs.Padding.{padded-again, body-ahead, fault-ahead, padded-42, padded-body, padded-fault}
 use Rattle.navic_c.proofs.Layouts.{frame-number, message-number, laid}
 
@@ -32,14 +32,14 @@ module _ (zs : List ℤ) where
   by-fault true p = later (λ (f : faultFrom zs ≡ 0 → ⊥). f (eqb-true (faultFrom zs) 0 p)) none
   by-fault false p = here (eqb-false (faultFrom zs) 0 p)
 
-  by-number : (i l : Bool) → idAbove zs ≡ i → late zs ≡ l → Given (drop 1 (conditions zs)) (pick i 9 (pick l 7 (pick (eqb (faultFrom zs) 0) 0 8)))
+  by-number : (i l : Bool) → idAbove zs ≡ i → untimely zs ≡ l → Given (drop 1 (conditions zs)) (pick i 9 (pick l 7 (pick (eqb (faultFrom zs) 0) 0 8)))
   by-number true l p q = here p
   by-number false true p q = later (clash p) (here q)
   by-number false false p q = later (clash p) (later (clash q) (by-fault (eqb (faultFrom zs) 0) refl))
 
   by-length : (n : Bool) → eqb (length zs) 42 ≡ n
-      → Given (conditions zs) (pick n (pick (idAbove zs) 9 (pick (late zs) 7 (pick (eqb (faultFrom zs) 0) 0 8))) 1)
-  by-length true o = later (λ (f : length zs ≡ 42 → ⊥). f (eqb-true (length zs) 42 o)) (by-number (idAbove zs) (late zs) refl refl)
+      → Given (conditions zs) (pick n (pick (idAbove zs) 9 (pick (untimely zs) 7 (pick (eqb (faultFrom zs) 0) 0 8))) 1)
+  by-length true o = later (λ (f : length zs ≡ 42 → ⊥). f (eqb-true (length zs) 42 o)) (by-number (idAbove zs) (untimely zs) refl refl)
   by-length false o = here (eqb-false (length zs) 42 o)
 
   ordered : Given (conditions zs) (refusal zs)
@@ -50,10 +50,10 @@ module _ (zs : List ℤ) where
   pub record Sound : Type 0 where
     pub long : length zs ≡ 42
     pub own-id : idAbove zs ≡ false
-    pub in-time : late zs ≡ false
+    pub in-time : untimely zs ≡ false
     pub fits : faultFrom zs ≡ 0
 
-  sound-by : (n i l t : Bool) → eqb (length zs) 42 ≡ n → idAbove zs ≡ i → late zs ≡ l → eqb (faultFrom zs) 0 ≡ t
+  sound-by : (n i l t : Bool) → eqb (length zs) 42 ≡ n → idAbove zs ≡ i → untimely zs ≡ l → eqb (faultFrom zs) 0 ≡ t
       → pick n (pick i 9 (pick l 7 (pick {A = ℕ} t 0 8))) 1 ≡ 0 → Sound
   sound-by false i l t o p q r z = absurd (omega arith)
   sound-by true true l t o p q r z = absurd (omega arith)
@@ -64,7 +64,7 @@ module _ (zs : List ℤ) where
 
   pub sound : refusal zs ≡ 0 → Sound
   unfolding refusal
-  sound z = sound-by (eqb (length zs) 42) (idAbove zs) (late zs) (eqb (faultFrom zs) 0) refl refl refl refl z
+  sound z = sound-by (eqb (length zs) 42) (idAbove zs) (untimely zs) (eqb (faultFrom zs) 0) refl refl refl refl z
 
   accepted : Sound → refusal zs ≡ 0
   unfolding refusal
@@ -85,22 +85,22 @@ module _ (body : List ℕ) where
   front-long : length (front body) ≡ length (rowsOf (own body))
   front-long = length-map (rowsOf (own body)) (valueAt body)
 
-  pub own-layout : layoutIn (numbersIn body) ≡ layoutBy (subframeId body) (messageId body)
-  unfolding layoutIn numbersIn
+  pub own-layout : layoutIn (numbersOfBody body) ≡ layoutBy (subframeId body) (messageId body)
+  unfolding layoutIn numbersOfBody
   own-layout = laid body (behind (front body)) (subframeId body) (messageId body) refl
 
-  pub numbers-42 : length (numbersIn body) ≡ 42
-  unfolding numbersIn
+  pub numbers-42 : length (numbersOfBody body) ≡ 42
+  unfolding numbersOfBody
   numbers-42 = padded-42 (own body) (front body) own-layout front-long
 
   -- written again
-  body-again : IsBody body → bodyFrom (numbersIn body) ≡ body
-  unfolding numbersIn
+  body-again : IsBody body → bodyFrom (numbersOfBody body) ≡ body
+  unfolding numbersOfBody
   body-again is = padded-body (own body) (front body) own-layout front-long ∙ body-values (own body) body (is .long) (is .bits)
 
   -- an ID of six bits is below 64
-  pub id-below : idAbove (numbersIn body) ≡ false
-  unfolding idAbove numbersIn
+  pub id-below : idAbove (numbersOfBody body) ≡ false
+  unfolding idAbove numbersOfBody
   id-below =
       rw (frame-number body (behind (front body)) (own body))
       (go (ltb 1 (subframeId body)) refl)
@@ -114,8 +114,8 @@ module _ (body : List ℕ) where
       go false e = refl
 
   -- each number is within its field
-  pub none-at-fault : faultFrom (numbersIn body) ≡ 0
-  unfolding numbersIn
+  pub none-at-fault : faultFrom (numbersOfBody body) ≡ 0
+  unfolding numbersOfBody
   none-at-fault = padded-fault (own body) (front body) own-layout front-long ∙ values-fit (own body) body
 
 -- ---- numbers that the writer takes
@@ -166,8 +166,8 @@ module _ (zs : List ℤ) (s : Sound zs) where
       let frame : unsigned zs 4 ≡ subframeId body = ap (λ (l : List ℤ). unsigned l 4) (sym again-by) ∙ frame-number body rest (layoutIn zs) in
       ap layoutIn (sym again-by) ∙ laid body rest (unsigned zs 4) (unsigned zs 6) frame
 
-  numbers-back : numbersIn (bodyFrom zs) ≡ zs
-  unfolding numbersIn
+  numbers-back : numbersOfBody (bodyFrom zs) ≡ zs
+  unfolding numbersOfBody
   numbers-back = ap (λ (l : Layout). padded (values (rowsOf l) (bodyFrom zs))) (sym layout-kept) ∙ again-by
 
   body-is : IsBody (bodyFrom zs)
@@ -182,5 +182,5 @@ lawful =
       back = λ zs z. numbers-back zs (sound zs z);
       again = body-again;
       timely = λ zs z. sound zs z .in-time;
-      taken = λ b is timely. accepted (numbersIn b) (record { long = numbers-42 b; own-id = id-below b; in-time = timely; fits = none-at-fault b });
+      taken = λ b is timely. accepted (numbersOfBody b) (record { long = numbers-42 b; own-id = id-below b; in-time = timely; fits = none-at-fault b });
     }

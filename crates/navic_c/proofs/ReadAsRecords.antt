@@ -24,18 +24,18 @@ use Rattle.navic.specs.Family.{Reading, Why, done, refused, notOf600, littleRoo
 use Rattle.navic.specs.Navic as navic
 use Rattle.navic.specs.Navic.{family, quality, lineFrom, readOf, answer}
 use Rattle.weektime.specs.Time.{towcRefused}
-use Rattle.navic_c.specs.Numbers.{padded, numbersIn, late, numbered}
-use Rattle.navic_c.specs.Calls.{lineOf}
+use Rattle.navic_c.specs.Numbers.{padded, numbersOfBody, untimely, numbered}
+use Rattle.navic_c.specs.Calls.{lineOfNumbers}
 use Rattle.navic_c.proofs.Layouts.{time-number}
 
 -- ---- a body
-pub record-numbers : (body : List ℕ) → padded (numbersOf (fromBody body .«record») (fromBody body .beside)) ≡ numbersIn body
-unfolding numbersIn
+pub record-numbers : (body : List ℕ) → padded (numbersOf (fromBody body .«record») (fromBody body .beside)) ≡ numbersOfBody body
+unfolding numbersOfBody
 record-numbers body = ap padded (reads body .same)
 
 -- its time is refused alike
-pub time-same : (body : List ℕ) → late (numbersIn body) ≡ towcRefused (towcIn (fromBody body .«record»))
-unfolding late numbersIn
+pub time-same : (body : List ℕ) → untimely (numbersOfBody body) ≡ towcRefused (towcIn (fromBody body .«record»))
+unfolding untimely numbersOfBody
 time-same body =
     let l = layoutBy (subframeId body) (messageId body) in
     ap towcRefused (time-number body (replicate (42 - length (values (rowsOf l) body)) (pos 0)) l ∙ sym (reads body .time))
@@ -45,10 +45,10 @@ abbrev pub asNumbers : Reading family → Reading numbered
 asNumbers (done e n t) = done (padded (numbersOf (e .«record») (e .beside))) n t
 asNumbers (refused y n t) = refused y n t
 
-time-by : (body : List ℕ) (n : ℕ) (t : Bool) → byTime numbered (numbersIn body) n t ≡ asNumbers (byTime family (fromBody body) n t)
+time-by : (body : List ℕ) (n : ℕ) (t : Bool) → byTime numbered (numbersOfBody body) n t ≡ asNumbers (byTime family (fromBody body) n t)
 time-by body n t = rw (time-same body) (go (towcRefused (towcIn (fromBody body .«record»))))
   where
-    go : (l : Bool) → pick {A = Reading numbered} l (refused badTime n t) (done (numbersIn body) n t) ≡ asNumbers (pick l (refused badTime n t) (done (fromBody body) n t))
+    go : (l : Bool) → pick {A = Reading numbered} l (refused badTime n t) (done (numbersOfBody body) n t) ≡ asNumbers (pick l (refused badTime n t) (done (fromBody body) n t))
     go true = refl
     go false = λ i. done (sym (record-numbers body) i) n t
 
@@ -129,7 +129,7 @@ reading-bare s room = go (eqb (length s) 600) (leb 36 room)
     go true false = (refl, refl)
     go false b = (refl, refl)
 
-pub line-same : (y : Reading family) → Bare y → lineOf (asNumbers y) ≡ navic.lineOf (readOf y .reading)
+pub line-same : (y : Reading family) → Bare y → lineOfNumbers (asNumbers y) ≡ navic.lineOf (readOf y .reading)
 line-same (done e n t) z =
     ap (λ (id : ℕ). lineFrom 0 (quality n t) (idOf (e .«record») + 1) (towcIn (e .«record»)) id) (id-told (e .«record») (e .beside))
 line-same (refused notOf600 n t) z = λ i. lineFrom 1 (quality (z .0 i) (z .1 i)) 0 0 0
@@ -142,6 +142,6 @@ line-same (refused badCheck n t) z = refl
 line-same (refused badTime n t) z = refl
 
 -- the line of what is read as numbers is the line of what crate navic's reader answers
-pub line-read : (s : List ℕ) (room : ℕ) → lineOf (readingOf numbered s room) ≡ navic.lineOf (answer s room .reading)
+pub line-read : (s : List ℕ) (room : ℕ) → lineOfNumbers (readingOf numbered s room) ≡ navic.lineOf (answer s room .reading)
 unfolding answer
-line-read s room = ap lineOf (reading-same s room) ∙ line-same (readingOf family s room) (reading-bare s room)
+line-read s room = ap lineOfNumbers (reading-same s room) ∙ line-same (readingOf family s room) (reading-bare s room)

@@ -30,16 +30,16 @@ use Rattle.navic.proofs.Demands as demands
 use Rattle.navic.proofs.Instance.{clash}
 use Rattle.navic.proofs.Ordered.{reader-ordered, writer-ordered}
 use Rattle.navic_c.specs.Numbers.{layoutIn, rowsIn, allZero, faultFrom, refusal, numbered}
-use Rattle.navic_c.specs.Calls.{int64, readFrom, lineOf, writtenOf}
+use Rattle.navic_c.specs.Calls.{int64, readFrom, lineOfNumbers, writtenOf}
 use Rattle.navic_c.proofs.Lawful.{lawful, sound, no-fault}
 use Rattle.navic_c.proofs.Padding.{zeros-only}
 
 -- ---- demand 1: each refusal is given exactly when its condition holds and no earlier one's does
-number-told : (y : Reading numbered) → lineOf y .refusal ≡ readingNumber y
+number-told : (y : Reading numbered) → lineOfNumbers y .refusal ≡ readingNumber y
 number-told (done zs n t) = refl
 number-told (refused y n t) = refl
 
-pub read-refuses : (s : List ℕ) (bytes count : ℕ) → Given (readerConditions numbered s (pick (leb 42 count) bytes 0)) (lineOf (readFrom s bytes count) .refusal)
+pub read-refuses : (s : List ℕ) (bytes count : ℕ) → Given (readerConditions numbered s (pick (leb 42 count) bytes 0)) (lineOfNumbers (readFrom s bytes count) .refusal)
 unfolding readFrom
 read-refuses s bytes count =
     let room = pick (leb 42 count) bytes 0 in

@@ -22,7 +22,7 @@ use Rattle.navic.specs.Family.{writingOf, writeInto, symbolsOf}
 use Rattle.navic.specs.Navic.{family, entryOf, entryRefusal, entryBeside, writtenBy, writtenNumber, writtenBeside, writeAnswer, lentAfterWrite}
 use Rattle.navic_c.specs.declared.Written.{Written}
 use Rattle.weektime.specs.Time.{towcRefused}
-use Rattle.navic_c.specs.Numbers.{padded, layoutIn, bodyFrom, idAbove, late, faultFrom, refusal, numbered}
+use Rattle.navic_c.specs.Numbers.{padded, layoutIn, bodyFrom, idAbove, untimely, faultFrom, refusal, numbered}
 use Rattle.navic_c.specs.Calls.{writtenOf}
 use Rattle.navic_c.proofs.Padding.{padded-42, padded-body, padded-fault}
 
@@ -31,7 +31,7 @@ pub record Says (zs : List ℤ) (r : Record) (b : Beside) : Type 0 where
   pub layout : layoutIn zs ≡ layoutOf r
   pub body : bodyFrom zs ≡ toBody r b
   pub fault : faultFrom zs ≡ faultOf r b
-  pub time : late zs ≡ towcRefused (towcIn r)
+  pub time : untimely zs ≡ towcRefused (towcIn r)
   pub own-id : idAbove zs ≡ false
   pub long : length zs ≡ 42
   pub refused : refusal zs ≡ entryRefusal (entryOf r b)
@@ -79,8 +79,8 @@ module _ (r : Record) (b : Beside) (d : idRefused r ≡ false) (u : unusedZero (
   unfolding faultOf recordFault
   fault-written = rw (u, padded-fault (layoutOf r) (numbersOf r b) (layout-written r b d) (numbers-long r b)) (sym (same _))
 
-  time-written : late zs ≡ towcRefused (towcIn r)
-  unfolding late
+  time-written : untimely zs ≡ towcRefused (towcIn r)
+  unfolding untimely
   time-written = refl
 
   long-written : length zs ≡ 42

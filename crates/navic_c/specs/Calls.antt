@@ -50,10 +50,10 @@ unfoldable pub readFrom : List ℕ → ℕ → ℕ → Reading numbered
 readFrom s bytes count = readingOf numbered s (pick (leb 42 count) bytes 0)
 
 -- the six numbers: refusal, corrected count, polarity, subframe, TOWC, message ID; the last three 0 unless it is done
-abbrev pub lineOf : Reading numbered → Numbers
-lineOf (done zs n t) =
+abbrev pub lineOfNumbers : Reading numbered → Numbers
+lineOfNumbers (done zs n t) =
     lineFrom 0 (quality n t) (unsigned zs 4 + 1) (unsigned zs 1) (pick (ltb 1 (unsigned zs 4)) (unsigned zs 6) 0)
-lineOf (refused y n t) = lineFrom (numberOf y) (quality n t) 0 0 0
+lineOfNumbers (refused y n t) = lineFrom (numberOf y) (quality n t) 0 0 0
 
 -- the lent bytes and the lent numbers afterwards
 unfoldable pub wordAfter : List ℕ → List ℕ → ℕ → List ℕ
@@ -107,8 +107,8 @@ countedFrom n = record { refusal = countedNumber (countOf (record { 0 = n })); t
 abbrev pub nearestRefusal : List ℕ → ℕ → ℕ
 nearestRefusal coded room = pick (eqb (length coded) 584) (pick (leb 286 room) (pick (atMost 1 coded) 0 3) 2) 1
 
-unfoldable pub nearestOf : List ℕ → ℕ → Decoded
-nearestOf coded room =
+unfoldable pub nearestAnswer : List ℕ → ℕ → Decoded
+nearestAnswer coded room =
     record {
       refusal = nearestRefusal coded room;
       corrected = pick (eqb (nearestRefusal coded room) 0) (cost 1 coded (decode 1 286 coded)) 0;

@@ -24,8 +24,8 @@ use Rattle.weektime.specs.Time.{towcRefused}
 abbrev pub padded : List ℤ → List ℤ
 padded zs = zs ++ replicate (42 - length zs) (pos 0)
 
-unfoldable pub numbersIn : List ℕ → List ℤ
-numbersIn body = padded (values (rowsOf (layoutBy (subframeId body) (messageId body))) body)
+unfoldable pub numbersOfBody : List ℕ → List ℤ
+numbersOfBody body = padded (values (rowsOf (layoutBy (subframeId body) (messageId body))) body)
 
 -- the layout, by the subframe ID and the message ID, numbers 4 and 6 from 0. A number below 0 counts as 0 here; its field refuses it
 unfoldable pub layoutIn : List ℤ → Layout
@@ -43,8 +43,8 @@ unfoldable pub idAbove : List ℤ → Bool
 idAbove zs = both (ltb 1 (unsigned zs 4)) (ltb 63 (unsigned zs 6))
 
 -- 7: TOWC, number 1
-unfoldable pub late : List ℤ → Bool
-late zs = towcRefused (unsigned zs 1)
+unfoldable pub untimely : List ℤ → Bool
+untimely zs = towcRefused (unsigned zs 1)
 
 abbrev pub isZero : ℤ → Bool
 isZero (pos n) = eqb n 0
@@ -63,12 +63,12 @@ abbrev pub conditions : List ℤ → List Refusal
 conditions zs =
     record { number = 1; condition = length zs ≡ 42 → ⊥ } ∷
     record { number = 9; condition = idAbove zs ≡ true } ∷
-    record { number = 7; condition = late zs ≡ true } ∷
+    record { number = 7; condition = untimely zs ≡ true } ∷
     record { number = 8; condition = faultFrom zs ≡ 0 → ⊥ } ∷
     []
 
 unfoldable pub refusal : List ℤ → ℕ
-refusal zs = pick (eqb (length zs) 42) (pick (idAbove zs) 9 (pick (late zs) 7 (pick (eqb (faultFrom zs) 0) 0 8))) 1
+refusal zs = pick (eqb (length zs) 42) (pick (idAbove zs) 9 (pick (untimely zs) 7 (pick (eqb (faultFrom zs) 0) 0 8))) 1
 
 -- beside 8 stands the fault's first bit, beside all else 0
 unfoldable pub beside : List ℤ → ℕ
@@ -79,10 +79,10 @@ abbrev pub numbered : Family
 numbered =
     record {
       Entry = List ℤ;
-      fromBody = numbersIn;
+      fromBody = numbersOfBody;
       toBody = bodyFrom;
       idle = idleOf;
-      untimely = late;
+      untimely = untimely;
       conditions = conditions;
       refusal = refusal;
       beside = beside;

@@ -7,7 +7,7 @@ ghost use Rattle.bits.specs.Lists.{atMost};
 ghost use Rattle.fields.specs.Fields.{faultIn};
 ghost use Rattle.message.specs.Numbers.{nat};
 ghost use Rattle.navic.specs.Family.{symbolsOf};
-ghost use Rattle.navic_c.specs.Numbers.{layoutIn, rowsIn, idAbove, late, faultFrom, bodyFrom, refusal, beside, numbered};
+ghost use Rattle.navic_c.specs.Numbers.{layoutIn, rowsIn, idAbove, untimely, faultFrom, bodyFrom, refusal, beside, numbered};
 ghost use Rattle.navic_c.specs.Calls.{int64, Words, fitting, recordOf};
 use crate::Written;
 use crate::lent::copy;
@@ -51,8 +51,8 @@ fn id_above(all: [u64; 42]) -> bool
 }
 
 // Whether TOWC is refused.
-fn late(all: [u64; 42]) -> bool
-    ensures { λ r. ⌜ r ≡ late (int64 all) ⌝ }
+fn untimely(all: [u64; 42]) -> bool
+    ensures { λ r. ⌜ r ≡ untimely (int64 all) ⌝ }
 {
     let n = natural(all[1]);
     if n < 4294967296 {
@@ -112,7 +112,7 @@ pub fn judge(all: [u64; 42]) -> Written
             first_bit: 0,
         };
     }
-    if late(all) {
+    if untimely(all) {
         return Written {
             refusal: 7,
             first_bit: 0,

@@ -7,7 +7,7 @@ ghost use Rattle.convolution.specs.Code.{cost};
 ghost use Rattle.convolution.specs.Trellis.{decode};
 ghost use Rattle.navic.specs.Family.{readingOf};
 ghost use Rattle.navic_c.specs.Numbers.{numbered};
-ghost use Rattle.navic_c.specs.Calls.{Few, lineOf, numbersBy};
+ghost use Rattle.navic_c.specs.Calls.{Few, lineOfNumbers, numbersBy};
 use message::Beside;
 use navic::Numbers;
 use navic::Reading;
@@ -28,7 +28,7 @@ pub fn copy(to: &mut [u64], from: &[u64])
 
 // The line where too few numbers are lent: 1 for a wrong length, else 2.
 pub fn no_room(symbols: &[u8]) -> Numbers
-    ensures { λ r. ⌜ r ≡ lineOf (readingOf numbered (now (symbols .entry)) 0) ⌝ }
+    ensures { λ r. ⌜ r ≡ lineOfNumbers (readingOf numbered (now (symbols .entry)) 0) ⌝ }
 {
     if symbols.len() != 600 {
         return navic::line(Reading::Length);

@@ -5,7 +5,7 @@ ghost use lib.ListN.{length};
 ghost use Rattle.navic.specs.Family.{writeInto};
 ghost use Rattle.recording.specs.Walk.{foundFrom};
 ghost use Rattle.navic_c.specs.Numbers.{numbered};
-ghost use Rattle.navic_c.specs.Calls.{int64, readFrom, lineOf, wordAfter, numbersAfter, writtenOf, pairedOf, idleOfNumbers, beganFrom, countedFrom, nearestOf, nearestInto};
+ghost use Rattle.navic_c.specs.Calls.{int64, readFrom, lineOfNumbers, wordAfter, numbersAfter, writtenOf, pairedOf, idleOfNumbers, beganFrom, countedFrom, nearestAnswer, nearestInto};
 use ephemeris::Paired;
 use navic::Numbers;
 use recording::Found;
@@ -46,7 +46,7 @@ pub struct Decoded {
 // Reads 600 symbols. Done, the word's bits are put into the first 36 bytes of `word` and the record's numbers into the first 42 of `numbers`.
 #[no_mangle]
 pub extern "C" fn navic_read(symbols: &[u8], word: &mut [u8], numbers: &mut [u64]) -> Numbers
-    ensures { λ r. ⌜ r ≡ lineOf (readFrom (now (symbols .entry)) (length (now (word .entry))) (length (now (numbers .entry)))) ⌝ }
+    ensures { λ r. ⌜ r ≡ lineOfNumbers (readFrom (now (symbols .entry)) (length (now (word .entry))) (length (now (numbers .entry)))) ⌝ }
     ensures { λ _. ⌜ now (word .exit) ≡ wordAfter (now (symbols .entry)) (now (word .entry)) (length (now (numbers .entry))) ⌝ }
     ensures { λ _. ⌜ now (numbers .exit) ≡ numbersAfter (readFrom (now (symbols .entry)) (length (now (word .entry))) (length (now (numbers .entry)))) (now (numbers .entry)) ⌝ }
 {
@@ -157,7 +157,7 @@ pub extern "C" fn navic_count_in(second: u32) -> Counted
 // The word nearest to 584 coded symbols, its 286 bits a byte each, and how many symbols its code differs in.
 #[no_mangle]
 pub extern "C" fn navic_nearest(coded: &[u8], word: &mut [u8]) -> Decoded
-    ensures { λ r. ⌜ r ≡ nearestOf (now (coded .entry)) (length (now (word .entry))) ⌝ }
+    ensures { λ r. ⌜ r ≡ nearestAnswer (now (coded .entry)) (length (now (word .entry))) ⌝ }
     ensures { λ _. ⌜ now (word .exit) ≡ nearestInto (now (coded .entry)) (now (word .entry)) ⌝ }
 {
     if coded.len() != 584 {

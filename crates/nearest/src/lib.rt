@@ -264,5 +264,6 @@ fn find(coded: &[u8], p: u8, len: usize, word: &mut [u8]) -> u16
 pub fn nearest(coded: &[u8; 584], word: &mut [u8; 286]) -> u16
     ensures { λ r. ⌜ (r ≡ cost 1 (now (coded .entry)) (decode 1 286 (now (coded .entry)))) × (now (word .exit) ≡ decode 1 286 (now (coded .entry))) ⌝ }
 {
+    // Blocks of 73 steps: 24 + 2 * 73 is at most 255, and four of them are 292.
     find(coded, 1, 73, word)
 }

@@ -47,7 +47,7 @@ foundAt l p =
 unfoldable pub foundFrom : List ℕ → ℕ → Found
 foundFrom l from = pick (leb (length l) 65536) (foundAt l (firstFrom l from)) (record { number = 1; start = 0; after = 0 })
 
--- r is the part of the whole from `start` to `after`: it lies there, and holds those symbols
+-- r is the part of the whole from `start` to `after`: it lies there (a pointer is a block of memory and a place in it), and holds those symbols
 pub record PartOf (whole : RefT (List ℕ)) (f : Found) (r : RefT (List ℕ)) : Type 0 where
   pub lies : r .ptr ≡ (whole .ptr .0, f .start + whole .ptr .1)
   pub holds : r .now ≡ part (whole .now) (f .start) (f .after - f .start)

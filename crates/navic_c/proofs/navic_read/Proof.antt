@@ -4,7 +4,7 @@ use borrow.Author.Needs.{needs}
 use lib.ListN.{length}
 use Rattle.navic.specs.declared.Readout.{Readout}
 use Rattle.navic.specs.Navic as navic
-use Rattle.navic_c.specs.Calls.{lineOf, numbersAfter}
+use Rattle.navic_c.specs.Calls.{lineOfNumbers, numbersAfter}
 use Rattle.navic_c.proofs.ReadAsRecords.{line-read}
 use Rattle.navic_c.proofs.Answered.{few-read, few-word, few-numbers, enough-read, enough-word, numbers-lent}
 use Rattle.navic_c.proofs.navic_read.Statement.{statement}
@@ -18,7 +18,7 @@ returns c =
     let a = c .before .before .before .before .before .args in
     let s = a .symbols .now in
     let few = c .before .if1 .taken in (
-      c .no-room .ensures ∙ sym (ap lineOf (few-read s (a .word .now) (a .numbers .now) few)),
+      c .no-room .ensures ∙ sym (ap lineOfNumbers (few-read s (a .word .now) (a .numbers .now) few)),
       (few-word s (a .word .now) (a .numbers .now) few, few-numbers s (a .word .now) (a .numbers .now) few),
     )
 
@@ -47,7 +47,7 @@ returns-2 c =
     let word = a .word .now in
     let h = enough .if1 .left in (
       c .line .ensures ∙ ap (λ (q : Readout). navic.lineOf (q .reading)) (got .read .ensures .0) ∙ sym (line-read s (length word))
-          ∙ sym (ap lineOf (enough-read s word (a .numbers .now) h)),
+          ∙ sym (ap lineOfNumbers (enough-read s word (a .numbers .now) h)),
       (
         got .read .ensures .1 ∙ enough-word s word (a .numbers .now) h,
         lent .lend .ensures ∙ numbers-lent s (a .numbers .now) (length word) (got .read .result) (got .read .ensures .0)

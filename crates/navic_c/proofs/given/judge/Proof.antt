@@ -11,14 +11,14 @@ id-above-requires c κs = search needs
 returns : tie.Need-returns
 returns c = let s = c .before .before in refuses-9 (s .args .all) (s .pre) (sym (c .before .id-above .ensures) ∙ c .if1 .taken)
 
-late-requires : tie.Need-late-requires
-late-requires c κs = search needs
+untimely-requires : tie.Need-untimely-requires
+untimely-requires c κs = search needs
 
 returns-2 : tie.Need-returns-2
 returns-2 c =
     let i = c .before .before in
     let s = i .before .before in
-    refuses-7 (s .args .all) (s .pre) (sym (i .before .id-above .ensures) ∙ i .if1 .left) (sym (c .before .late .ensures) ∙ c .if2 .taken)
+    refuses-7 (s .args .all) (s .pre) (sym (i .before .id-above .ensures) ∙ i .if1 .left) (sym (c .before .untimely .ensures) ∙ c .if2 .taken)
 
 fault-requires : tie.Need-fault-requires
 fault-requires c κs = search needs
@@ -28,7 +28,7 @@ returns-3 c =
     let l = c .before .before in
     let i = l .before .before in
     let s = i .before .before in
-    refuses-none (s .args .all) (s .pre) (sym (i .before .id-above .ensures) ∙ i .if1 .left) (sym (l .before .late .ensures) ∙ l .if2 .left)
+    refuses-none (s .args .all) (s .pre) (sym (i .before .id-above .ensures) ∙ i .if1 .left) (sym (l .before .untimely .ensures) ∙ l .if2 .left)
     (sym (c .before .fault .ensures) ∙ c .if3 .taken)
 
 returns-4 : tie.Need-returns-4
@@ -36,10 +36,10 @@ returns-4 c =
     let l = c .before .before in
     let i = l .before .before in
     let s = i .before .before in
-    refuses-8 (s .args .all) (s .pre) (sym (i .before .id-above .ensures) ∙ i .if1 .left) (sym (l .before .late .ensures) ∙ l .if2 .left)
+    refuses-8 (s .args .all) (s .pre) (sym (i .before .id-above .ensures) ∙ i .if1 .left) (sym (l .before .untimely .ensures) ∙ l .if2 .left)
     (c .before .fault .result) (c .before .fault .ensures) (c .if3 .left)
 
 pub judge-spec : {M : Type 1} → statement M
 judge-spec =
     tie.close
-    (tie.spec id-above-requires returns late-requires returns-2 fault-requires returns-3 returns-4)
+    (tie.spec id-above-requires returns untimely-requires returns-2 fault-requires returns-3 returns-4)

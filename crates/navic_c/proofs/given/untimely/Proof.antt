@@ -7,11 +7,11 @@ use Rattle.message.specs.Numbers.{unsigned}
 use Rattle.weektime.specs.declared.Towc.{Towc}
 use Rattle.weektime.specs.Time.{towcRefused}
 use Rattle.weektime.proofs.Counts.{too-high}
-use Rattle.navic_c.specs.Numbers.{late}
+use Rattle.navic_c.specs.Numbers.{untimely}
 use Rattle.navic_c.specs.Calls.{int64}
 use Rattle.navic_c.proofs.Words.{unsigned-at}
-use Rattle.navic_c.proofs.given.late.Statement.{statement}
-use Rattle.navic_c.proofs.given.late.Tie as tie
+use Rattle.navic_c.proofs.given.untimely.Statement.{statement}
+use Rattle.navic_c.proofs.given.untimely.Tie as tie
 
 array-read-natural : tie.Need-array-read-natural
 array-read-natural c = search needs
@@ -29,7 +29,7 @@ refused-requires : tie.Need-refused-requires
 refused-requires c κs = search needs
 
 returns : tie.Need-returns
-unfolding late
+unfolding untimely
 returns c =
     let s = c .before .before .before in
     let all = s .before .args .t1 in
@@ -37,15 +37,15 @@ returns c =
     c .refused .ensures ∙ ap towcRefused (c .before .new .ensures ∙ count)
 
 returns-2 : tie.Need-returns-2
-unfolding late
+unfolding untimely
 returns-2 c =
     let s = c .before in
     let all = s .before .args .t1 in
     let count : unsigned (int64 all) 1 ≡ s .natural .result = unsigned-at all 1 ∙ sym (s .natural .ensures) in
     rw count (sym (too-high (s .natural .result) (omega (arith, c .if1 .left))))
 
-pub late-spec : {M : Type 1} → statement M
-late-spec =
+pub untimely-spec : {M : Type 1} → statement M
+untimely-spec =
     tie.close
     (tie.spec
     array-read-natural
