@@ -1,4 +1,4 @@
--- A record written is read back, a body read is written back, and the writer refuses nothing that was read. Assumes nothing.
+-- A record written is read back, a body read is written back, and of what was read the writer refuses a TOWC at most. Assumes nothing.
 use mathlib.Core.Path.{_≡_, refl, ap, ap₂, _∙_}
 use mathlib.Core.Bool.{Bool, true, false}
 use mathlib.Core.List.{List}
@@ -73,7 +73,8 @@ message-named (case.GnssTime c) b body v = ap (λ (zs : List ℤ). unsigned zs 6
 message-named (case.Null c) b body v = ap (λ (zs : List ℤ). unsigned zs 6) v
 message-named (case.Unread c) b body v = ap (λ (zs : List ℤ). unsigned zs 6) v
 
-no-fault : (n : ℕ) (u : Bool) → pick (eqb n 0) (pick u 0 293) n ≡ 0 → (n ≡ 0) × (u ≡ true)
+-- no fault: each number is within its field, and what is not used is 0
+pub no-fault : (n : ℕ) (u : Bool) → pick (eqb n 0) (pick u 0 293) n ≡ 0 → (n ≡ 0) × (u ≡ true)
 no-fault n u e = go (eqb n 0) u refl e
   where
     go : (t u : Bool) → eqb n 0 ≡ t → pick t (pick u 0 293) n ≡ 0 → (n ≡ 0) × (u ≡ true)
@@ -101,7 +102,7 @@ body-back body e b =
     let l = layoutBy (subframeId body) (records.messageId body) in
     ap₂ (λ (l : Layout) (zs : List ℤ). bodyOf (rowsOf l) zs) (reads body .lays) (reads body .same) ∙ body-values l body e b
 
--- the writer refuses nothing of it; no body is refused but for its TOWC
+-- the writer refuses it neither for its ID nor for its numbers: for its TOWC at most
 pub read-accepted : (body : List ℕ) → (idRefused (fromBody body .«record») ≡ false) × (faultOf (fromBody body .«record») (fromBody body .beside) ≡ 0)
 unfolding faultOf recordFault
 read-accepted body =

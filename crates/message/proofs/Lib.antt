@@ -7,3 +7,4 @@ pub mod Parsing
 pub mod Reading
 pub mod Return
 pub mod Sorting
+pub mod Zeros

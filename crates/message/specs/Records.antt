@@ -162,7 +162,7 @@ messageIdOf (case.GnssTime c) = 26
 messageIdOf (case.Null c) = 0
 messageIdOf (case.Unread c) = c .id
 
--- 8: the first bit of the lowest field outside its width; 293 if only an unused bit or number beside the record is not 0
+-- 8: the first bit of the lowest field outside its width, 0 if there is none
 unfoldable pub recordFault : Record → Beside → ℕ
 recordFault r b = faultIn (rowsOf (layoutOf r)) (numbersOf r b)
 
@@ -192,5 +192,6 @@ unusedZero pairs b = both (zeros? 28 (b .bits)) (both (eqb (length (b .givei)) 1
 unusedZero bits b =
     both (both (eqb (length (b .bits)) 28) (eqb (at (b .bits) 27 % 16) 0)) (both (zeros? 15 (b .givei)) (zeros? 15 (b .givd)))
 
+-- the same, but 293 if only an unused bit or number beside the record is not 0
 unfoldable pub faultOf : Record → Beside → ℕ
 faultOf r b = pick (eqb (recordFault r b) 0) (pick (unusedZero (usedBy (layoutOf r)) b) 0 293) (recordFault r b)

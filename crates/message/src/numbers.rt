@@ -1,7 +1,6 @@
 // From a record to the numbers of its body.
 ghost use mathlib.Core.Path.{_≡_};
 ghost use mathlib.Core.List.{_++_};
-ghost use lib.ListN.{getD};
 ghost use Rattle.bits.specs.Lists.{at, pick};
 ghost use Rattle.fields.specs.Patterns.{pattern};
 ghost use Rattle.message.specs.Numbers.{numberOf, byteAt, headFields, messageFields, subframe1Fields, subframe2Fields, ionoGridFields, almanacFields, timeOffsetsFields, earthIonoFields, dataFields};
@@ -73,16 +72,6 @@ fn number(field: Field, beside: Beside) -> u64
     }
 }
 
-// The field at a place, the head's first.
-fn field_at(lead: [Field; 6], own: [Field; 36], i: usize) -> Field
-    ensures { λ r. ⌜ r ≡ getD (lead ++ own) i (Field.Plain 0) ⌝ }
-{
-    if i < 6 {
-        return lead[i];
-    }
-    if i < 42 { own[i - 6] } else { Field::Plain(0) }
-}
-
 // The numbers of the head's fields and of those behind it.
 fn lay(lead: [Field; 6], own: [Field; 36], beside: Beside) -> [u64; 42]
     ensures { λ r. ⌜ Laid (lead ++ own) beside r ⌝ }
@@ -90,7 +79,7 @@ fn lay(lead: [Field; 6], own: [Field; 36], beside: Beside) -> [u64; 42]
     let mut numbers = [0u64; 42];
     let mut i = 0;
     while i < 42 {
-        let field = field_at(lead, own, i);
+        let field = if i < 6 { lead[i] } else { own[i - 6] };
         numbers[i] = number(field, beside);
         i += 1;
     }

@@ -1,11 +1,13 @@
 -- `numbers::lay` meets its contract: the numbers before i are laid. Assumes nothing.
-use mathlib.Core.Path.{refl, ap, subst, _∙_}
-use mathlib.Core.List.{_++_}
-use Prim.Native.Nat.{ℕ, _-_, _<_}
+use mathlib.Core.Path.{_≡_, refl, sym, ap, subst, _∙_}
+use mathlib.Core.List.{List, _++_}
+use mathlib.Core.Logic.{⊎-elim}
+use Prim.Native.Nat.{ℕ, _+_, _-_, _≤_, _<_}
 use native.Mathlib.Omega.{arith}
 use borrow.Author.Count.{below-more}
 use borrow.Author.Needs.{needs}
-use lib.ListN.{getD}
+use lib.ListN.{length, getD, List·getD-append}
+use lib.Seq.{getD-append-add}
 use Rattle.fields.specs.Patterns.{pattern}
 use Rattle.message.specs.declared.Field.{Field}
 use Rattle.message.specs.declared.Field.the-variants.{Plain}
@@ -16,18 +18,46 @@ use Rattle.message.proofs.numbers.lay.Statement.{statement}
 use Rattle.message.proofs.numbers.lay.Tie as tie
 
 abbrev Inv-loop : tie.InvT-loop
-Inv-loop lead own beside numbers₀ i₀ numbers i =
+Inv-loop beside lead own numbers₀ i₀ numbers i =
     Filled 0 (λ k. pattern (numberOf beside (getD (lead ++ own) k (Plain 0)))) 42 i numbers
     × ((k : ℕ) → k < i → Good beside (getD (lead ++ own) k (Plain 0)))
 
 abbrev μ-loop : tie.MeasureT-loop
-μ-loop lead own beside numbers₀ i₀ numbers i = 42 - i
+μ-loop beside lead own numbers₀ i₀ numbers i = 42 - i
 
 loop-holds : tie.Need-loop-holds Inv-loop μ-loop
 loop-holds c = (filled-none 0 _ 42 _ refl, λ k h. absurd (omega arith))
 
-field-at-requires : tie.Need-field-at-requires Inv-loop μ-loop
-field-at-requires c κs = search needs
+mul-field : tie.Need-mul-field Inv-loop μ-loop
+mul-field c = omega arith
+
+array-copy-out-field : tie.Need-array-copy-out-field Inv-loop μ-loop
+array-copy-out-field c = search needs
+
+mul-field-2 : tie.Need-mul-field-2 Inv-loop μ-loop
+mul-field-2 c = omega arith
+
+array-copy-out-field-2 : tie.Need-array-copy-out-field-2 Inv-loop μ-loop
+array-copy-out-field-2 c = search needs
+
+-- an element of two lists put together, by the length of the first
+fore : {A : Type 0} (d : A) (l m : List A) (n i : ℕ) → length l ≡ n → i < n → getD l i d ≡ getD (l ++ m) i d
+fore d l m n i e h = sym (List·getD-append l m d i (omega arith))
+
+rear : {A : Type 0} (d : A) (l m : List A) (n i : ℕ) → length l ≡ n → n ≤ i → getD m (i - n) d ≡ getD (l ++ m) i d
+rear d l m n i e h =
+    let z : length l + (i - n) ≡ i = omega arith in
+    sym (getD-append-add l m (i - n) d) ∙ ap (λ (k : ℕ). getD (l ++ m) k d) z
+
+-- the field that a turn takes
+taken : (c : tie.Joined1 Inv-loop μ-loop)
+    → c .if1 .field ≡ getD (c .before .before .before .args .t1 ++ c .before .before .before .args .t2) (c .before .before .loop .i) (Plain 0)
+taken c =
+    let a = c .before .before .before .args in
+    let i = c .before .before .loop .i in
+    let long : length (a .t1) ≡ 6 = search needs in
+    ⊎-elim (λ w. w .2 ∙ fore (Plain 0) (a .t1) (a .t2) 6 i long (w .0 .taken)) (λ w. w .2 ∙ rear (Plain 0) (a .t1) (a .t2) 6 i long (w .0 .left))
+    (c .if1 .came)
 
 number-requires : tie.Need-number-requires Inv-loop μ-loop
 number-requires c κs = search needs
@@ -48,7 +78,7 @@ loop-again : tie.Need-loop-again Inv-loop μ-loop
 loop-again c =
     let b = c .before .before .before .before .args .beside in
     let inv = c .before .before .before .loop .inv in
-    let is = c .before .field-at .ensures in (
+    let is = taken (c .before) in (
       filled-more 0 _ 42 _ _ _ (omega arith) (c .number .ensures .0 ∙ ap (λ (f : Field). pattern (numberOf b f)) is) (inv .0),
       below-more _ _ (inv .1) (subst (λ (f : Field). Good b f) is (c .number .ensures .1)),
     )
@@ -65,7 +95,10 @@ lay-spec =
     Inv-loop
     μ-loop
     loop-holds
-    field-at-requires
+    mul-field
+    array-copy-out-field
+    mul-field-2
+    array-copy-out-field-2
     number-requires
     mul-numbers
     array-write-numbers

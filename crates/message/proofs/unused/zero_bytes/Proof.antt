@@ -1,22 +1,21 @@
 -- `unused::zero_bytes` meets its contract: the elements before i are 0. Assumes nothing.
 use mathlib.Core.Path.{sym}
-use Prim.Native.Nat.{ℕ, _-_, _≤_, _<_}
+use Prim.Native.Nat.{_-_}
 use native.Mathlib.Omega.{arith}
-use borrow.Author.Count.{below-more}
 use lib.ListN.{length}
-use Rattle.bits.specs.Lists.{at}
-use Rattle.bits.proofs.Lists.{at-most-true, at-most-false, at-most-all}
+use Rattle.bits.proofs.Lists.{at-most-false}
+use Rattle.message.proofs.Zeros.{Zeros, zeros-none, zeros-more, zeros-all}
 use Rattle.message.proofs.unused.zero_bytes.Statement.{statement}
 use Rattle.message.proofs.unused.zero_bytes.Tie as tie
 
 abbrev Inv-loop : tie.InvT-loop
-Inv-loop bytes i₀ i = (i ≤ length bytes) × ((k : ℕ) → k < i → at bytes k ≤ 0)
+Inv-loop bytes i₀ i = Zeros bytes i
 
 abbrev μ-loop : tie.MeasureT-loop
 μ-loop bytes i₀ i = length bytes - i
 
 loop-holds : tie.Need-loop-holds Inv-loop μ-loop
-loop-holds c = (omega arith, λ k h. absurd (omega arith))
+loop-holds c = zeros-none _
 
 shared-slice-read-if1 : tie.Need-shared-slice-read-if1 Inv-loop μ-loop
 shared-slice-read-if1 c = omega arith
@@ -31,14 +30,10 @@ loop-less : tie.Need-loop-less Inv-loop μ-loop
 loop-less c = omega arith
 
 loop-again : tie.Need-loop-again Inv-loop μ-loop
-loop-again c =
-    let inv = c .before .before .before .loop .inv in
-    (omega arith, below-more (λ (k : ℕ). at (c .before .before .before .before .args .bytes .now) k ≤ 0) _ (inv .1) (omega arith))
+loop-again c = zeros-more _ _ (omega arith) (omega arith) (c .before .before .before .loop .inv)
 
 returns-2 : tie.Need-returns-2 Inv-loop μ-loop
-returns-2 c =
-    let l = c .before .before .args .bytes .now in
-    sym (at-most-true 0 l (at-most-all 0 l (λ k h. c .before .loop .inv .1 k (omega arith))))
+returns-2 c = sym (zeros-all _ _ (omega arith) (c .before .loop .inv))
 
 pub zero-bytes-spec : {M : Type 1} → statement M
 zero-bytes-spec =
