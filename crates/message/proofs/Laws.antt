@@ -20,7 +20,7 @@ use Rattle.message.specs.declared.Slot.the-variants as slot
 use Rattle.message.specs.declared.Record.{Record}
 use Rattle.message.specs.declared.Record.the-variants as case
 use Rattle.message.specs.declared.Beside.{Beside}
-use Rattle.message.specs.Numbers.{unsigned, take, slotId}
+use Rattle.message.specs.Numbers.{unsigned, viewOf, slotId}
 use Rattle.message.specs.Records as records
 use Rattle.message.specs.Records.{layoutOf, layoutBy, numbersOf, entryBy, toBody, fromBody, idRefused, faultOf, recordFault, usedBy, unusedZero, subframeId, towcIn, idOf, subframeOf, messageIdOf}
 use Rattle.message.proofs.Reading.{reads}
@@ -90,8 +90,8 @@ record-back r b d f =
     let k = no-fault (faultIn (rowsOf (layoutOf r)) zs) (unusedZero (usedBy (layoutOf r)) b) f in
     let v = values-body (layoutOf r) zs (numbers-long r b) (k .0) in
     let m = message-named r b body v in
-    ap (λ (s : ℕ). entryBy s (records.messageId body) (take (values (rowsOf (layoutBy s (records.messageId body))) body))) (frame-named r b body v)
-    ∙ ap (λ (zs′ : List ℤ). entryBy (unsigned zs 4) (records.messageId body) (take zs′))
+    ap (λ (s : ℕ). entryBy s (records.messageId body) (viewOf (values (rowsOf (layoutBy s (records.messageId body))) body))) (frame-named r b body v)
+    ∙ ap (λ (zs′ : List ℤ). entryBy (unsigned zs 4) (records.messageId body) (viewOf zs′))
     (ap (λ (l : Layout). values (rowsOf l) body) (layout-back r b (records.messageId body) m d) ∙ v)
     ∙ entry-back r b (records.messageId body) m d (k .1)
 

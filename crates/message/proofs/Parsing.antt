@@ -15,7 +15,7 @@ use Rattle.fields.specs.Patterns.{patterns}
 use Rattle.message.specs.declared.sorts.Raw.{Raw}
 use Rattle.message.specs.declared.Entry.{Entry}
 use Rattle.message.specs.declared.Record.the-variants as case
-use Rattle.message.specs.Numbers.{Taken, take, unreadOf, dataOf}
+use Rattle.message.specs.Numbers.{View, viewOf, unreadOf, dataOf}
 use Rattle.message.specs.Raw.{look, Sorted}
 use Rattle.message.specs.Records.{layoutBy, messageLayout, entryBy, messageBy}
 use Rattle.message.proofs.Choice.{test}
@@ -37,13 +37,13 @@ leads layout.EarthIono = tt
 leads layout.Data = tt
 
 module _ (body a : List ℕ) (t : Raw) (s : Sorted a t) where
-  same : (l : Layout) → a ≡ patterns (values (rowsOf l) body) → there (rowsOf l) (look t) ≡ there (rowsOf l) (take (values (rowsOf l) body))
+  same : (l : Layout) → a ≡ patterns (values (rowsOf l) body) → there (rowsOf l) (look t) ≡ there (rowsOf l) (viewOf (values (rowsOf l) body))
   same l e =
       there-same body (rowsOf l) a t e s (λ i h. is-true (upTo 32 (rowsOf l) i) (every-at (λ i. upTo 32 (rowsOf l) i) 6 (leads l) i h))
 
   -- what `make` takes of the arrays is what it takes of the numbers of a body of the layout l
-  abbrev Takes : Layout → (Taken → Entry) → Type 0
-  Takes l make = a ≡ patterns (values (rowsOf l) body) → make (look t) ≡ make (take (values (rowsOf l) body))
+  abbrev Takes : Layout → (View → Entry) → Type 0
+  Takes l make = a ≡ patterns (values (rowsOf l) body) → make (look t) ≡ make (viewOf (values (rowsOf l) body))
 
   message : (m : ℕ) → Takes (messageLayout m) (messageBy m)
   unfolding head messageId prn ionoGrid almanac timeOffsets earthIono dataBytes build
@@ -56,7 +56,7 @@ module _ (body a : List ℕ) (t : Raw) (s : Sorted a t) where
       (λ n9. test m 11 (λ q. like 11 q (λ e. ap (messageBy 11) (same layout.EarthIono e)))
       (λ n11. test m 26 (λ q. like 26 q (λ e. ap (messageBy 26) (same layout.TimeOffsets e)))
       (λ n26. test m 0 (λ q. like 0 q (λ e. ap (messageBy 0) (same layout.Data e)))
-      (λ n0. rw (n5, n7, n9, n11, n26, n0) (λ e. ap (λ (u : Taken). record { «record» = case.Unread (unreadOf u); beside = dataOf u }) (same layout.Data e))))))))
+      (λ n0. rw (n5, n7, n9, n11, n26, n0) (λ e. ap (λ (u : View). record { «record» = case.Unread (unreadOf u); beside = dataOf u }) (same layout.Data e))))))))
 
   pub entry : (s m : ℕ) → Takes (layoutBy s m) (entryBy s m)
   unfolding layoutBy entryBy head subframe1 subframe2

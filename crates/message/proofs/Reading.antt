@@ -20,7 +20,7 @@ use Rattle.fields.specs.Fields.{valueAt, values}
 use Rattle.message.specs.declared.Record.the-variants as case
 use Rattle.message.specs.declared.Beside.{Beside}
 use Rattle.message.specs.declared.Entry.{Entry}
-use Rattle.message.specs.Numbers.{numberOf, headFields, headOf, slotId, slotOf, unsigned, messageFields, dataFields, take, nothing}
+use Rattle.message.specs.Numbers.{numberOf, headFields, headOf, slotId, slotOf, unsigned, messageFields, dataFields, viewOf, nothing}
 use Rattle.message.specs.Numbers.{subframe1Of, subframe2Of, ionoGridOf, almanacOf, timeOffsetsOf, earthIonoOf, nullOf, unreadOf, pairsOf, dataOf}
 use Rattle.message.specs.Records.{subframeId, messageId, among, idRefused, layoutOf, layoutBy, messageLayout, entryBy, fromBody, messageBy, alone, numbersOf, usedBy, bits, unusedZero, towcIn, subframeOf, messageIdOf}
 use Rattle.message.proofs.Choice.{test}
@@ -67,7 +67,7 @@ module _ (body : List ℕ) where
       pos (number (part body 29 1)) ∷
       []
 
-  subframe1-read : subframeId body ≡ 0 → Read body layout.Subframe1 (alone (case.Subframe1 (subframe1Of (take (values (rowsOf layout.Subframe1) body)))))
+  subframe1-read : subframeId body ≡ 0 → Read body layout.Subframe1 (alone (case.Subframe1 (subframe1Of (viewOf (values (rowsOf layout.Subframe1) body)))))
   unfolding valueAt head subframe1 atMost
   subframe1-read e =
       let own = map (valueAt body) subframe1 in
@@ -85,7 +85,7 @@ module _ (body : List ℕ) where
         message = λ h. absurd (omega arith);
       }
 
-  subframe2-read : subframeId body ≡ 1 → Read body layout.Subframe2 (alone (case.Subframe2 (subframe2Of (take (values (rowsOf layout.Subframe2) body)))))
+  subframe2-read : subframeId body ≡ 1 → Read body layout.Subframe2 (alone (case.Subframe2 (subframe2Of (viewOf (values (rowsOf layout.Subframe2) body)))))
   unfolding valueAt head subframe2 atMost
   subframe2-read e =
       let own = map (valueAt body) subframe2 in
@@ -126,40 +126,40 @@ module _ (body : List ℕ) where
     unfolding valueAt table.messageId
     message-again id b zs own e = λ i. head-again (slotId (slotOf (subframeId body))) b zs slot-again i ++ (pos (e i) ∷ own)
 
-    almanac-read : 7 ≡ messageId body → Read body layout.Almanac (alone (case.Almanac (almanacOf (take (values (rowsOf layout.Almanac) body)))))
+    almanac-read : 7 ≡ messageId body → Read body layout.Almanac (alone (case.Almanac (almanacOf (viewOf (values (rowsOf layout.Almanac) body)))))
     unfolding valueAt head table.messageId almanac prn atMost
     almanac-read e =
         let own = map (valueAt body) (almanac ++ (prn ∷ [])) in
         message-read (message-again 7 nothing (valueAt body table.messageId ∷ own) own e) refl refl refl refl refl e
 
-    gps-time-read : 9 ≡ messageId body → Read body layout.TimeOffsets (alone (case.GpsTime (timeOffsetsOf (take (values (rowsOf layout.TimeOffsets) body)))))
+    gps-time-read : 9 ≡ messageId body → Read body layout.TimeOffsets (alone (case.GpsTime (timeOffsetsOf (viewOf (values (rowsOf layout.TimeOffsets) body)))))
     unfolding valueAt head table.messageId timeOffsets prn atMost
     gps-time-read e =
         let own = map (valueAt body) (timeOffsets ++ (prn ∷ [])) in
         message-read (message-again 9 nothing (valueAt body table.messageId ∷ own) own e) refl refl refl refl refl e
 
-    earth-iono-read : 11 ≡ messageId body → Read body layout.EarthIono (alone (case.EarthIono (earthIonoOf (take (values (rowsOf layout.EarthIono) body)))))
+    earth-iono-read : 11 ≡ messageId body → Read body layout.EarthIono (alone (case.EarthIono (earthIonoOf (viewOf (values (rowsOf layout.EarthIono) body)))))
     unfolding valueAt head table.messageId earthIono prn atMost
     earth-iono-read e =
         let own = map (valueAt body) (earthIono ++ (prn ∷ [])) in
         message-read (message-again 11 nothing (valueAt body table.messageId ∷ own) own e) refl refl refl refl refl e
 
-    gnss-time-read : 26 ≡ messageId body → Read body layout.TimeOffsets (alone (case.GnssTime (timeOffsetsOf (take (values (rowsOf layout.TimeOffsets) body)))))
+    gnss-time-read : 26 ≡ messageId body → Read body layout.TimeOffsets (alone (case.GnssTime (timeOffsetsOf (viewOf (values (rowsOf layout.TimeOffsets) body)))))
     unfolding valueAt head table.messageId timeOffsets prn atMost
     gnss-time-read e =
         let own = map (valueAt body) (timeOffsets ++ (prn ∷ [])) in
         message-read (message-again 26 nothing (valueAt body table.messageId ∷ own) own e) refl refl refl refl refl e
 
     iono-grid-read : 5 ≡ messageId body
-        → let zs = values (rowsOf layout.IonoGrid) body in Read body layout.IonoGrid (record { «record» = case.IonoGrid (ionoGridOf (take zs)); beside = pairsOf (take zs) })
+        → let zs = values (rowsOf layout.IonoGrid) body in Read body layout.IonoGrid (record { «record» = case.IonoGrid (ionoGridOf (viewOf zs)); beside = pairsOf (viewOf zs) })
     unfolding valueAt head table.messageId ionoGrid prn build atMost
     iono-grid-read e =
         let own = map (valueAt body) (ionoGrid ++ (prn ∷ [])) in
-        message-read (message-again 5 (pairsOf (take (values (rowsOf layout.IonoGrid) body))) (valueAt body table.messageId ∷ own) own e) refl refl refl refl refl e
+        message-read (message-again 5 (pairsOf (viewOf (values (rowsOf layout.IonoGrid) body))) (valueAt body table.messageId ∷ own) own e) refl refl refl refl refl e
 
     -- a message that keeps its 220 bits
     abbrev dataBits : Beside
-    dataBits = dataOf (take (values (rowsOf layout.Data) body))
+    dataBits = dataOf (viewOf (values (rowsOf layout.Data) body))
 
     data-again : (id : ℕ) → id ≡ messageId body
         → let zs = values (rowsOf layout.Data) body in map (numberOf dataBits) (headFields (headOf zs) (slotId (slotOf (subframeId body))) ++ messageFields id dataFields (unsigned zs 35)) ≡ zs
@@ -175,12 +175,12 @@ module _ (body : List ℕ) where
     unfolding valueAt head table.messageId dataBytes prn build atMost
     data-clear = let n = number (part body 252 4) in let z : n * 16 % 16 ≡ 0 = omega arith in rw z
 
-    null-read : 0 ≡ messageId body → Read body layout.Data (record { «record» = case.Null (nullOf (take (values (rowsOf layout.Data) body))); beside = dataBits })
+    null-read : 0 ≡ messageId body → Read body layout.Data (record { «record» = case.Null (nullOf (viewOf (values (rowsOf layout.Data) body))); beside = dataBits })
     unfolding valueAt head
     null-read e = message-read (data-again 0 e) refl refl data-clear refl refl e
 
     unread-read : among (messageId body) (0 ∷ 5 ∷ 7 ∷ 9 ∷ 11 ∷ 26 ∷ []) ≡ false
-        → Read body layout.Data (record { «record» = case.Unread (unreadOf (take (values (rowsOf layout.Data) body))); beside = dataBits })
+        → Read body layout.Data (record { «record» = case.Unread (unreadOf (viewOf (values (rowsOf layout.Data) body))); beside = dataBits })
     unfolding valueAt head table.messageId
     unread-read e =
         let small : messageId body < 64 = number-few (drop 30 body) 6 6 (omega arith) in
@@ -195,7 +195,7 @@ not-early (suc (suc n)) a b = omega arith
 module _ (body : List ℕ) where
   -- the body read as a message with the ID m; and as a subframe with the ID s
   abbrev ReadMessage : ℕ → Type 0
-  ReadMessage m = Read body (messageLayout m) (messageBy m (take (values (rowsOf (messageLayout m)) body)))
+  ReadMessage m = Read body (messageLayout m) (messageBy m (viewOf (values (rowsOf (messageLayout m)) body)))
 
   message-reads : 2 ≤ subframeId body → ReadMessage (messageId body)
   message-reads s =

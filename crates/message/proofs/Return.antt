@@ -22,7 +22,7 @@ use Rattle.message.specs.declared.Record.the-variants as case
 use Rattle.message.specs.declared.Beside.{Beside}
 use Rattle.message.specs.declared.Field.{Field}
 use Rattle.message.specs.Numbers.{numberOf, messageFields, subframe1Fields, subframe2Fields, ionoGridFields, almanacFields, timeOffsetsFields, earthIonoFields, dataFields, headFields}
-use Rattle.message.specs.Numbers.{headOf, slotId, slotOf, unsigned, nth, Taken, take, nothing, pairsOf, dataOf, subframe1Of, subframe2Of, ionoGridOf, almanacOf, timeOffsetsOf, earthIonoOf, nullOf, unreadOf}
+use Rattle.message.specs.Numbers.{headOf, slotId, slotOf, unsigned, nth, View, viewOf, nothing, pairsOf, dataOf, subframe1Of, subframe2Of, ionoGridOf, almanacOf, timeOffsetsOf, earthIonoOf, nullOf, unreadOf}
 use Rattle.message.specs.Records.{among, idRefused, layoutOf, layoutBy, messageLayout, entryBy, messageBy, numbersOf, usedBy, unusedZero, zeros?, pairs, bits}
 use Rattle.message.proofs.Choice.{both-holds, neither}
 
@@ -60,7 +60,7 @@ head-back h id b fs =
     λ i. record { tlm = h .tlm; towc = h .towc; alert = flag-back (h .alert) i; «auto_nav» = flag-back (h .«auto_nav») i; spare = h .spare }
 
 -- the numbers, with a head, a slot and flags that are known
-abbrev known : Head → Slot → (ℕ → Bool) → List ℤ → Taken
+abbrev known : Head → Slot → (ℕ → Bool) → List ℤ → View
 known h s f zs =
     record {
       head = h;
@@ -94,7 +94,7 @@ nothing-back b u =
     let q = both-holds (zeros? 15 (b .givei)) (zeros? 15 (b .givd)) (p .1) in
     λ i. record { bits = zeros-are 28 (b .bits) (p .0) i; givei = zeros-are 15 (b .givei) (q .0) i; givd = zeros-are 15 (b .givd) (q .1) i }
 
-pairs-back : (c : IonoGrid) (b : Beside) → unusedZero pairs b ≡ true → pairsOf (take (numbersOf (case.IonoGrid c) b)) ≡ b
+pairs-back : (c : IonoGrid) (b : Beside) → unusedZero pairs b ≡ true → pairsOf (viewOf (numbersOf (case.IonoGrid c) b)) ≡ b
 unfolding build
 pairs-back c b u =
     let p = both-holds (zeros? 28 (b .bits)) (both (eqb (length (b .givei)) 15) (eqb (length (b .givd)) 15)) u in
@@ -107,7 +107,7 @@ pairs-back c b u =
 
 -- the data of a null or unread message, whatever its ID
 data-back : (h : Head) (s : Slot) (id prn : ℕ) (b : Beside) → unusedZero bits b ≡ true
-    → dataOf (take (map (numberOf b) (headFields h (slotId s) ++ messageFields id dataFields prn))) ≡ b
+    → dataOf (viewOf (map (numberOf b) (headFields h (slotId s) ++ messageFields id dataFields prn))) ≡ b
 unfolding build
 data-back h s id prn b u =
     let p = both-holds (both (eqb (length (b .bits)) 28) (eqb (at (b .bits) 27 % 16) 0)) (both (zeros? 15 (b .givei)) (zeros? 15 (b .givd))) u in
@@ -123,23 +123,23 @@ data-back h s id prn b u =
 -- ---- the records
 -- the numbers of the fields, with the head and the slot that the record has
 taken-back : (h : Head) (s : Slot) (b : Beside) (fs : List Field)
-    → let zs = map (numberOf b) (headFields h (slotId s) ++ fs) in take zs ≡ known h s (λ k. eqb (unsigned zs k) 1) zs
+    → let zs = map (numberOf b) (headFields h (slotId s) ++ fs) in viewOf zs ≡ known h s (λ k. eqb (unsigned zs k) 1) zs
 taken-back h s b fs =
     let zs = map (numberOf b) (headFields h (slotId s) ++ fs) in
     λ i. known (head-back h (slotId s) b fs i) (slot-back s i) (λ k. eqb (unsigned zs k) 1) zs
 
 -- the flags of subframe 1 are numbers 16 and 17
-subframe1-back : (c : Subframe1) (b : Beside) → subframe1Of (take (numbersOf (case.Subframe1 c) b)) ≡ c
+subframe1-back : (c : Subframe1) (b : Beside) → subframe1Of (viewOf (numbersOf (case.Subframe1 c) b)) ≡ c
 subframe1-back c b =
     let flags : ℕ → Bool = λ k. pick (eqb k 16) (c .«l5_flag») (c .«s_flag») in
     λ i. subframe1Of (known (head-back (c .head) 0 b (subframe1Fields c) i) (slotOf 0) (λ k. flag-back (flags k) i) (numbersOf (case.Subframe1 c) b))
 
-subframe2-back : (c : Subframe2) (b : Beside) → subframe2Of (take (numbersOf (case.Subframe2 c) b)) ≡ c
+subframe2-back : (c : Subframe2) (b : Beside) → subframe2Of (viewOf (numbersOf (case.Subframe2 c) b)) ≡ c
 subframe2-back c b =
     let zs = numbersOf (case.Subframe2 c) b in
     λ i. subframe2Of (known (head-back (c .head) 1 b (subframe2Fields c) i) (slotOf 1) (λ k. eqb (unsigned zs k) 1) zs)
 
-message-entry : (s : Slot) (id : ℕ) (t : Taken) → entryBy (slotId s) id t ≡ messageBy id t
+message-entry : (s : Slot) (id : ℕ) (t : View) → entryBy (slotId s) id t ≡ messageBy id t
 unfolding entryBy
 message-entry slot.Subframe3 id t = refl
 message-entry slot.Subframe4 id t = refl
@@ -177,15 +177,15 @@ layout-back (case.Unread c) b m n d =
     rw n (message-layout (c .slot) (c .id) ∙ rw (o .not5, o .not7, o .not9, o .not11, o .not26))
 
 -- a message: what makes its record of the numbers, and what makes what stands beside
-message-back : (make : Taken → Record) (h : Head) (s : Slot) (fs : List Field) (b x : Beside) (m id : ℕ) → m ≡ id
-    → let zs = map (numberOf b) (headFields h (slotId s) ++ fs) in messageBy id (take zs) ≡ (record { «record» = make (take zs); beside = x }) → x ≡ b
-    → entryBy (slotId s) m (take zs) ≡ (record { «record» = make (known h s (λ k. eqb (unsigned zs k) 1) zs); beside = b })
+message-back : (make : View → Record) (h : Head) (s : Slot) (fs : List Field) (b x : Beside) (m id : ℕ) → m ≡ id
+    → let zs = map (numberOf b) (headFields h (slotId s) ++ fs) in messageBy id (viewOf zs) ≡ (record { «record» = make (viewOf zs); beside = x }) → x ≡ b
+    → entryBy (slotId s) m (viewOf zs) ≡ (record { «record» = make (known h s (λ k. eqb (unsigned zs k) 1) zs); beside = b })
 message-back make h s fs b x m id n e y =
     let zs = map (numberOf b) (headFields h (slotId s) ++ fs) in
-    ap (λ (k : ℕ). entryBy (slotId s) k (take zs)) n ∙ message-entry s id (take zs) ∙ e ∙ (λ i. record { «record» = make (taken-back h s b fs i); beside = y i })
+    ap (λ (k : ℕ). entryBy (slotId s) k (viewOf zs)) n ∙ message-entry s id (viewOf zs) ∙ e ∙ (λ i. record { «record» = make (taken-back h s b fs i); beside = y i })
 
 pub entry-back : (r : Record) (b : Beside) (m : ℕ) → Named r m → idRefused r ≡ false → unusedZero (usedBy (layoutOf r)) b ≡ true
-    → entryBy (unsigned (numbersOf r b) 4) m (take (numbersOf r b)) ≡ (record { «record» = r; beside = b })
+    → entryBy (unsigned (numbersOf r b) 4) m (viewOf (numbersOf r b)) ≡ (record { «record» = r; beside = b })
 unfolding entryBy
 entry-back (case.Subframe1 c) b m n d u = λ i. record { «record» = case.Subframe1 (subframe1-back c b i); beside = nothing-back b u i }
 entry-back (case.Subframe2 c) b m n d u = λ i. record { «record» = case.Subframe2 (subframe2-back c b i); beside = nothing-back b u i }

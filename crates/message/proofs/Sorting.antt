@@ -24,7 +24,7 @@ use Rattle.fields.specs.Fields.{valueAt, valueOf, twos, values, holds}
 use Rattle.fields.specs.Patterns.{noRow, pattern, patterns}
 use Rattle.fields.proofs.Twos.{value-holds}
 use Rattle.message.specs.declared.sorts.Raw.{Raw}
-use Rattle.message.specs.Numbers.{Taken, take, nth, nat, unsigned, headOf, slotOf}
+use Rattle.message.specs.Numbers.{View, viewOf, nth, nat, unsigned, headOf, slotOf}
 use Rattle.message.specs.Raw.{look, byBits, signAt, Sorted}
 use Rattle.message.proofs.Choice.{both-holds, second, where-true}
 use Rattle.message.proofs.Laying.{map-at, patterns-at}
@@ -40,7 +40,7 @@ abbrev pub sign : List Row → ℕ → Bool
 sign rows i = both (both (leb 6 i) (ltb i 27)) (both (signed (row rows i)) (both (leb 1 (width (row rows i))) (leb (width (row rows i)) 32)))
 
 -- what is taken there, and nothing elsewhere
-abbrev pub there : List Row → Taken → Taken
+abbrev pub there : List Row → View → View
 there rows t =
     record {
       head = t .head;
@@ -171,7 +171,7 @@ module _ (body : List ℕ) (rows : List Row) (a : List ℕ) (t : Raw) (e : a ≡
           spare = lead 5 (omega arith) j;
         })
 
-    pub there-same : there rows (look t) ≡ there rows (take zs)
+    pub there-same : there rows (look t) ≡ there rows (viewOf zs)
     there-same =
         λ j. record {
           head = head-taken j;

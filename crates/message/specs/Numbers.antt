@@ -40,7 +40,7 @@ numberOf b (Byte k) = pos (byteAt b k)
 abbrev pub nth : List ℤ → ℕ → ℤ
 nth zs i = getD zs i (pos 0)
 
--- the number of an unsigned field
+-- the number of an unsigned field; 0 for a number below 0, which no such field holds
 abbrev pub nat : ℤ → ℕ
 nat (pos n) = n
 nat (negsuc n) = 0
@@ -64,9 +64,9 @@ headFields h id =
 abbrev pub messageFields : ℕ → List Field → ℕ → List Field
 messageFields id fields prn = Plain id ∷ (fields ++ (Plain prn ∷ []))
 
--- the numbers of a body in the table's order, each as what a record or what stands beside it may have there: the head and the slot; an unsigned
--- number, of at most 4, 8, 16, 32 or 64 bits; a signed number; a flag; a week
-pub record Taken : Type 0 where
+-- the numbers of a body by place, as each sort of field that may stand there. `nibble`, `byte`, `short`, `plain` and `wide` are the same number; the
+-- code carries it in 4, 8, 16, 32 or 64 bits
+pub record View : Type 0 where
   pub head : Head
   pub slot : Slot
   pub nibble : ℕ → ℕ
@@ -88,8 +88,8 @@ headOf zs =
       spare = unsigned zs 5;
     }
 
-abbrev pub take : List ℤ → Taken
-take zs =
+abbrev pub viewOf : List ℤ → View
+viewOf zs =
     record {
       head = headOf zs;
       slot = slotOf (unsigned zs 4);
@@ -128,7 +128,7 @@ subframe1Fields c =
     Plain (c .spare) ∷
     []
 
-abbrev pub subframe1Of : Taken → Subframe1
+abbrev pub subframe1Of : View → Subframe1
 subframe1Of t =
     record {
       head = t .head;
@@ -167,7 +167,7 @@ subframe2Fields c =
     Plain (c .spare) ∷
     []
 
-abbrev pub subframe2Of : Taken → Subframe2
+abbrev pub subframe2Of : View → Subframe2
 subframe2Of t =
     record {
       head = t .head;
@@ -200,7 +200,7 @@ almanacFields c =
     Plain (c .spare) ∷
     []
 
-abbrev pub almanacOf : Taken → Almanac
+abbrev pub almanacOf : View → Almanac
 almanacOf t =
     record {
       head = t .head;
@@ -242,7 +242,7 @@ timeOffsetsFields c =
     Wide (c .spare) ∷
     []
 
-abbrev pub timeOffsetsOf : Taken → TimeOffsets
+abbrev pub timeOffsetsOf : View → TimeOffsets
 timeOffsetsOf t =
     record {
       head = t .head;
@@ -286,7 +286,7 @@ earthIonoFields c =
     Plain (c .spare) ∷
     []
 
-abbrev pub earthIonoOf : Taken → EarthIono
+abbrev pub earthIonoOf : View → EarthIono
 earthIonoOf t =
     record {
       head = t .head;
@@ -320,7 +320,7 @@ listOf (suc n) f = f 0 ∷ listOf n (λ i. f (suc i))
 abbrev pub pairFields : List Field
 pairFields = listOf 30 (λ i. pick (eqb (i % 2) 0) (Givei (i / 2)) (Givd (i / 2)))
 
-abbrev pub pairsOf : Taken → Beside
+abbrev pub pairsOf : View → Beside
 pairsOf t =
     record {
       bits = replicate 28 0;
@@ -332,7 +332,7 @@ pairsOf t =
 abbrev pub dataFields : List Field
 dataFields = listOf 28 (λ k. Byte k)
 
-abbrev pub dataOf : Taken → Beside
+abbrev pub dataOf : View → Beside
 dataOf t =
     record {
       bits = build 28 (λ i. pick (eqb i 27) (t .nibble 34 * 16) (t .byte (7 + i)));
@@ -346,7 +346,7 @@ nothing = record { bits = replicate 28 0; givei = replicate 15 0; givd = replica
 abbrev pub ionoGridFields : IonoGrid → List Field
 ionoGridFields c = Plain (c .mask) ∷ Plain (c .region) ∷ (pairFields ++ (Plain (c .iodi) ∷ Plain (c .spare) ∷ []))
 
-abbrev pub ionoGridOf : Taken → IonoGrid
+abbrev pub ionoGridOf : View → IonoGrid
 ionoGridOf t =
     record {
       head = t .head;
@@ -358,8 +358,8 @@ ionoGridOf t =
       prn = t .plain 41;
     }
 
-abbrev pub nullOf : Taken → Null
+abbrev pub nullOf : View → Null
 nullOf t = record { head = t .head; slot = t .slot; prn = t .plain 35 }
 
-abbrev pub unreadOf : Taken → Unread
+abbrev pub unreadOf : View → Unread
 unreadOf t = record { head = t .head; slot = t .slot; id = t .plain 6; prn = t .plain 35 }

@@ -19,7 +19,7 @@ use Rattle.message.specs.declared.Beside.{Beside}
 use Rattle.message.specs.declared.Field.{Field}
 use Rattle.message.specs.declared.Field.the-variants as field
 use Rattle.message.specs.declared.Field.the-variants.{Plain, Flag, WeekNumber, Wide, Givei, Givd, Byte}
-use Rattle.message.specs.Numbers.{Taken, slotOf, numberOf, byteAt}
+use Rattle.message.specs.Numbers.{View, slotOf, numberOf, byteAt}
 
 abbrev pub headFrom : List ℕ → Head
 headFrom plain =
@@ -91,7 +91,7 @@ pub record Sorted (patterns : List ℕ) (t : Raw) : Type 0 where
   pub signed : (i : ℕ) → 6 ≤ i → i < 27 → signAt (t .signed) i ≡ byBits (byBits (toZ w32 (at patterns i % 2 ^ 32)))
   pub week : (i : ℕ) → i < 42 → getD (t .weeks) i (record { 0 = 0 }) .0 ≡ at (t .plain) i
 
-abbrev pub look : Raw → Taken
+abbrev pub look : Raw → View
 look t =
     record {
       head = t .head;

@@ -18,11 +18,11 @@ use Rattle.message.specs.declared.Beside.{Beside}
 use Rattle.message.specs.declared.Entry.{Entry}
 use Rattle.message.specs.declared.Field.{Field}
 use Rattle.message.specs.Numbers.{numberOf, slotId, headFields, messageFields, subframe1Fields, subframe2Fields, ionoGridFields, almanacFields}
-use Rattle.message.specs.Numbers.{timeOffsetsFields, earthIonoFields, dataFields, Taken, take, subframe1Of, subframe2Of, ionoGridOf}
+use Rattle.message.specs.Numbers.{timeOffsetsFields, earthIonoFields, dataFields, View, viewOf, subframe1Of, subframe2Of, ionoGridOf}
 use Rattle.message.specs.Numbers.{almanacOf, timeOffsetsOf, earthIonoOf, nullOf, unreadOf, pairsOf, dataOf, nothing}
 
 -- ---- from a body to its record
--- the layout of a body, by its subframe ID and its message ID
+-- the layout of a message, by its ID; and of any body, by its subframe ID and its message ID
 abbrev pub messageLayout : ℕ → Layout
 messageLayout id =
     pick (eqb id 5) layout.IonoGrid
@@ -38,12 +38,12 @@ abbrev pub alone : Record → Entry
 alone r = record { «record» = r; beside = nothing }
 
 -- every message with ID 0 is the null message; other IDs than 5, 7, 9, 11, 26 and 0 give the unread case
-abbrev pub dataBy : ℕ → Taken → Entry
+abbrev pub dataBy : ℕ → View → Entry
 dataBy id t =
     pick (eqb id 0) (record { «record» = case.Null (nullOf t); beside = dataOf t })
     (record { «record» = case.Unread (unreadOf t); beside = dataOf t })
 
-abbrev pub messageBy : ℕ → Taken → Entry
+abbrev pub messageBy : ℕ → View → Entry
 messageBy id t =
     pick (eqb id 5) (record { «record» = case.IonoGrid (ionoGridOf t); beside = pairsOf t })
     (pick (eqb id 7) (alone (case.Almanac (almanacOf t)))
@@ -51,7 +51,7 @@ messageBy id t =
     (pick (eqb id 11) (alone (case.EarthIono (earthIonoOf t)))
     (pick (eqb id 26) (alone (case.GnssTime (timeOffsetsOf t))) (dataBy id t)))))
 
-unfoldable pub entryBy : ℕ → ℕ → Taken → Entry
+unfoldable pub entryBy : ℕ → ℕ → View → Entry
 entryBy subframe id t =
     pick (eqb subframe 0) (alone (case.Subframe1 (subframe1Of t)))
     (pick (eqb subframe 1) (alone (case.Subframe2 (subframe2Of t))) (messageBy id t))
@@ -65,7 +65,7 @@ messageId body = number (part body 30 6)
 
 unfoldable pub fromBody : List ℕ → Entry
 fromBody body =
-    entryBy (subframeId body) (messageId body) (take (values (rowsOf (layoutBy (subframeId body) (messageId body))) body))
+    entryBy (subframeId body) (messageId body) (viewOf (values (rowsOf (layoutBy (subframeId body) (messageId body))) body))
 
 -- ---- from a record to its body
 abbrev pub layoutOf : Record → Layout
@@ -143,7 +143,7 @@ idRefused (case.GnssTime c) = false
 idRefused (case.Null c) = false
 idRefused (case.Unread c) = idTaken (c .id)
 
--- 7: its TOWC is one that `towcRefused` of crate weektime refuses
+-- its TOWC; 7 where `towcRefused` of crate weektime holds of it
 abbrev pub towcIn : Record → ℕ
 towcIn r = headIn r .towc .0
 
@@ -185,7 +185,8 @@ usedBy layout.TimeOffsets = none
 usedBy layout.EarthIono = none
 usedBy layout.Data = bits
 
--- the bits and numbers beside a record that its case doesn't use are 0. (The arrays' lengths are theirs by type.)
+-- the bits and numbers beside a record that its case doesn't use are 0. (The tests of lengths hold of every Beside that code can make; with them
+-- `record-back` holds of any lists.)
 abbrev pub unusedZero : Use → Beside → Bool
 unusedZero none b = both (zeros? 28 (b .bits)) (both (zeros? 15 (b .givei)) (zeros? 15 (b .givd)))
 unusedZero pairs b = both (zeros? 28 (b .bits)) (both (eqb (length (b .givei)) 15) (eqb (length (b .givd)) 15))

@@ -378,7 +378,8 @@ pub fn table_numbers(record: Record, beside: Beside) -> [u64; 42]
     numbers::numbers_of(record, beside)
 }
 
-// The record of a body, and what stands beside it. The layouts of all messages have the two IDs at the same places.
+// The record of a body, and what stands beside it. It is read as data first, for the two IDs, which every message has at the same places (of
+// subframes 1 and 2 number 6 is no ID and is not used); then by its own layout.
 pub fn parse(body: &[u8; 262]) -> Entry
     ensures { λ r. ⌜ r ≡ fromBody (now (body .entry)) ⌝ }
 {

@@ -18,6 +18,7 @@ use Rattle.fields.specs.Fields.{valueAt, values, bodyOf, faultIn}
 use Rattle.fields.proofs.Bodies.{body-long, body-bits, values-body, body-values, values-fit}
 use Rattle.fields.proofs.Rules.{few}
 use Rattle.message.specs.Numbers.{unsigned}
+use Rattle.message.proofs.Laws.{no-fault}
 use Rattle.message.specs.Records.{layoutBy, subframeId, messageId}
 use Rattle.navic.specs.Refusals.{Given, none, here, later}
 use Rattle.navic.specs.Family.{IsBody, Lawful}
@@ -119,14 +120,6 @@ module _ (body : List ℕ) where
   none-at-fault = padded-fault (own body) (front body) own-layout front-long ∙ values-fit (own body) body
 
 -- ---- numbers that the writer takes
-pub no-fault : (n : ℕ) (u : Bool) → pick (eqb n 0) (pick u 0 293) n ≡ 0 → (n ≡ 0) × (u ≡ true)
-no-fault n u e = go (eqb n 0) u refl e
-  where
-    go : (t u : Bool) → eqb n 0 ≡ t → pick t (pick u 0 293) n ≡ 0 → (n ≡ 0) × (u ≡ true)
-    go true true q f = (eqb-true n 0 q, refl)
-    go true false q f = absurd (omega arith)
-    go false u q f = absurd (eqb-false n 0 q f)
-
 module _ (zs : List ℤ) (s : Sound zs) where
   abbrev rows : List Row
   rows = rowsIn zs

@@ -24,6 +24,7 @@ use Rattle.fields.proofs.Rules.{Tiles, tiled}
 use Rattle.framing.specs.Frame.{turnedIf}
 use Rattle.link.specs.Promise.{alteredCoded, Altered, Taken}
 use Rattle.link.specs.Link.{sentOf, receiveOf}
+use Rattle.message.proofs.Laws.{no-fault}
 use Rattle.navic.specs.Refusals.{Given}
 use Rattle.navic.specs.Family.{Reading, done, refused, readerConditions, writerConditions, readingNumber, readingOf, writingOf, symbolsOf}
 use Rattle.navic.proofs.Demands as demands
@@ -31,7 +32,7 @@ use Rattle.navic.proofs.Instance.{clash}
 use Rattle.navic.proofs.Ordered.{reader-ordered, writer-ordered}
 use Rattle.navic_c.specs.Numbers.{layoutIn, rowsIn, allZero, faultFrom, refusal, numbered}
 use Rattle.navic_c.specs.Calls.{int64, readFrom, lineOfNumbers, writtenOf}
-use Rattle.navic_c.proofs.Lawful.{lawful, sound, no-fault}
+use Rattle.navic_c.proofs.Lawful.{lawful, sound}
 use Rattle.navic_c.proofs.Padding.{zeros-only}
 
 -- ---- demand 1: each refusal is given exactly when its condition holds and no earlier one's does

@@ -7,7 +7,7 @@ use Rattle.fields.specs.declared.Layout.{Layout}
 use Rattle.fields.specs.Table.{rowsOf, head, messageId}
 use Rattle.fields.specs.Fields.{valueAt, values}
 use Rattle.fields.specs.Patterns.{patterns}
-use Rattle.message.specs.Numbers.{take}
+use Rattle.message.specs.Numbers.{viewOf}
 use Rattle.message.specs.Records as records
 use Rattle.message.specs.Records.{subframeId, layoutBy, entryBy, fromBody}
 use Rattle.message.proofs.Parsing.{entry}
@@ -48,7 +48,7 @@ returns c =
     let a = c .before .before .read2 .ensures ∙ ap (λ (l : Layout). patterns (values (rowsOf l) body)) (c .before .before .before .layout-by .ensures) in
     c .entry .ensures
     ∙ entry body _ _ (c .before .raw-of .ensures) s′ m′ a
-    ∙ ap₂ (λ (s m : ℕ). entryBy s m (take (values (rowsOf (layoutBy s m)) body))) s m
+    ∙ ap₂ (λ (s m : ℕ). entryBy s m (viewOf (values (rowsOf (layoutBy s m)) body))) s m
 
 pub parse-spec : {M : Type 1} → statement M
 parse-spec =
