@@ -7,17 +7,8 @@ use lib.ListN.{List·getD-eq-default}
 use Rattle.bits.proofs.bit.Statement.{statement}
 use Rattle.bits.proofs.bit.Tie as tie
 
-shared-slice-read-lowest : tie.Need-shared-slice-read-lowest
-shared-slice-read-lowest c = search needs
-
-lowest-requires : tie.Need-lowest-requires
-lowest-requires c κs = search needs
-
-returns : tie.Need-returns
-returns c = search needs
-
 returns-2 : tie.Need-returns-2
 returns-2 c = omega (arith, List·getD-eq-default {A = ℕ} (c .before .before .args .word .now) 0 (c .if1 .left))
 
 pub bit-spec : {M : Type 1} → statement M
-bit-spec = tie.close (tie.spec shared-slice-read-lowest lowest-requires returns returns-2)
+bit-spec = tie.close (tie.spec (λ c. search needs) (λ c κs. search needs) (λ c. search needs) returns-2)

@@ -9,12 +9,9 @@ use Rattle.crc24q.proofs.Word.{agrees-whole}
 use Rattle.crc24q.proofs.agrees.Statement.{statement}
 use Rattle.crc24q.proofs.agrees.Tie as tie
 
-check-requires : tie.Need-check-requires
-check-requires c κs = search needs
-
 returns : tie.Need-returns
 returns c =
     ap (λ (n : ℕ). eqb n 0) (c .check .ensures) ∙ sym (agrees-whole (c .before .before .args .word .now) (omega arith))
 
 pub agrees-spec : {M : Type 1} → statement M
-agrees-spec = tie.close (tie.spec check-requires returns)
+agrees-spec = tie.close (tie.spec (λ c κs. search needs) returns)

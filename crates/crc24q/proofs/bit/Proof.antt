@@ -19,21 +19,6 @@ of-check body c place long l h =
     ap (at (body ++ bitsOf 24 c)) (omega arith) ∙ getD-append-add body (bitsOf 24 c) (place - 262) 0
     ∙ bits-at 24 c (place - 262) (omega arith) ∙ ap (λ (k : ℕ). c / 2 ^ k % 2) (omega arith)
 
-shared-slice-read-result : tie.Need-shared-slice-read-result
-shared-slice-read-result c = search needs
-
-sub-result : tie.Need-sub-result
-sub-result c = search needs
-
-cast-result : tie.Need-cast-result
-cast-result c = search needs
-
-shr-result : tie.Need-shr-result
-shr-result c = search needs
-
-cast-result-2 : tie.Need-cast-result-2
-cast-result-2 c = search needs
-
 returns : tie.Need-returns
 returns c =
     sym (List·getD-append (c .before .before .args .body .now) (bitsOf 24 (c .before .before .args .c)) 0 (c .before .before .args .place) (omega arith))
@@ -46,10 +31,10 @@ pub bit-spec : {M : Type 1} → statement M
 bit-spec =
     tie.close
     (tie.spec
-    shared-slice-read-result
-    sub-result
-    cast-result
-    shr-result
-    cast-result-2
+    (λ c. search needs)
+    (λ c. search needs)
+    (λ c. search needs)
+    (λ c. search needs)
+    (λ c. search needs)
     returns
     returns-2)

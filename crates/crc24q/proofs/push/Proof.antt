@@ -9,15 +9,6 @@ use Rattle.crc24q.proofs.Sums.{plus-lt}
 use Rattle.crc24q.proofs.push.Statement.{statement}
 use Rattle.crc24q.proofs.push.Tie as tie
 
-mul-t : tie.Need-mul-t
-mul-t c = search needs
-
-cast-t : tie.Need-cast-t
-cast-t c = search needs
-
-mul-t-2 : tie.Need-mul-t-2
-mul-t-2 c = search needs
-
 returns : tie.Need-returns
 unfolding _⊕_
 returns c = reduce-none (c .before .args .r * 2 ⊕ c .before .args .b % 2 * 2 ^ 24) (c .if1 .taken)
@@ -29,4 +20,4 @@ returns-2 c =
     (plus-lt 25 (c .before .args .r * 2) (c .before .args .b % 2 * 2 ^ 24) (omega arith) (omega arith))
 
 pub push-spec : {M : Type 1} → statement M
-push-spec = tie.close (tie.spec mul-t cast-t mul-t-2 returns returns-2)
+push-spec = tie.close (tie.spec (λ c. search needs) (λ c. search needs) (λ c. search needs) returns returns-2)

@@ -9,12 +9,6 @@ use Rattle.crc24q.specs.Check.{withCheck}
 use Rattle.crc24q.proofs.with_check.Statement.{statement}
 use Rattle.crc24q.proofs.with_check.Tie as tie
 
-check-requires : tie.Need-check-requires
-check-requires c κs = search needs
-
-joined-requires : tie.Need-joined-requires
-joined-requires c κs = search needs
-
 returns : tie.Need-returns
 unfolding withCheck
 returns c =
@@ -22,4 +16,4 @@ returns c =
     ∙ ap (λ (n : ℕ). c .before .before .before .before .args .body .now ++ bitsOf 24 n) (c .before .before .check .ensures)
 
 pub with-check-spec : {M : Type 1} → statement M
-with-check-spec = tie.close (tie.spec check-requires joined-requires returns)
+with-check-spec = tie.close (tie.spec (λ c κs. search needs) (λ c κs. search needs) returns)

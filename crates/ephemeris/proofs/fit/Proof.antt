@@ -6,12 +6,6 @@ use Rattle.ephemeris.specs.Pairing.{fit}
 use Rattle.ephemeris.proofs.fit.Statement.{statement}
 use Rattle.ephemeris.proofs.fit.Tie as tie
 
-is-sound-requires : tie.Need-is-sound-requires
-is-sound-requires c κs = search needs
-
-is-sound-requires-2 : tie.Need-is-sound-requires-2
-is-sound-requires-2 c κs = search needs
-
 returns : tie.Need-returns
 unfolding fit
 returns c = let d = c .before .before in rw (eq-eqb _ _ (d .before .if1 .taken), sym (d .is-sound .ensures) ∙ c .before .if2 .taken) (c .is-sound2 .ensures)
@@ -25,4 +19,4 @@ unfolding fit
 returns-3 c = rw (ne-eqb _ _ (c .if1 .left))
 
 pub fit-spec : {M : Type 1} → statement M
-fit-spec = tie.close (tie.spec is-sound-requires is-sound-requires-2 returns returns-2 returns-3)
+fit-spec = tie.close (tie.spec (λ c κs. search needs) (λ c κs. search needs) returns returns-2 returns-3)

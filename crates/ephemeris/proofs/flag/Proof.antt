@@ -3,12 +3,6 @@ use borrow.Author.Needs.{needs}
 use Rattle.ephemeris.proofs.flag.Statement.{statement}
 use Rattle.ephemeris.proofs.flag.Tie as tie
 
-whole-requires : tie.Need-whole-requires
-whole-requires c κs = search needs
-
-whole-requires-2 : tie.Need-whole-requires-2
-whole-requires-2 c κs = search needs
-
 returns : tie.Need-returns
 returns c = rw (c .before .if1 .taken) (c .whole .ensures)
 
@@ -16,4 +10,4 @@ returns-2 : tie.Need-returns-2
 returns-2 c = rw (c .before .if1 .left) (c .whole2 .ensures)
 
 pub flag-spec : {M : Type 1} → statement M
-flag-spec = tie.close (tie.spec whole-requires whole-requires-2 returns returns-2)
+flag-spec = tie.close (tie.spec (λ c κs. search needs) (λ c κs. search needs) returns returns-2)

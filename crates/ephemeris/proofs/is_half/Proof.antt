@@ -5,12 +5,6 @@ use Rattle.ephemeris.proofs.Cases.{message-late}
 use Rattle.ephemeris.proofs.is_half.Statement.{statement}
 use Rattle.ephemeris.proofs.is_half.Tie as tie
 
-enum-told : tie.Need-enum-told
-enum-told c = search needs
-
-enum-told-2 : tie.Need-enum-told-2
-enum-told-2 c = search needs
-
 returns : tie.Need-returns
 returns c = rw (c .enum-told .given .1)
 
@@ -21,4 +15,4 @@ returns-3 : tie.Need-returns-3
 returns-3 c = sym (message-late (c .before .args .«record») (c .match .keys3))
 
 pub is-half-spec : {M : Type 1} → statement M
-is-half-spec = tie.close (tie.spec enum-told enum-told-2 returns returns-2 returns-3)
+is-half-spec = tie.close (tie.spec (λ c. search needs) (λ c. search needs) returns returns-2 returns-3)

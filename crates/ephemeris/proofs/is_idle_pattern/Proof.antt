@@ -18,21 +18,6 @@ use Rattle.ephemeris.proofs.is_idle_pattern.Tie as tie
 fault-test : (r : Record) {b : Beside} {n : ℕ} {t : Bool} → b ≡ nothing → n ≡ faultOf r b → eqb n 0 ≡ t → eqb (faultOf r nothing) 0 ≡ t
 fault-test r e f g = (λ i. eqb (faultOf r (sym e i)) 0) ∙ ap (λ (n : ℕ). eqb n 0) (sym f) ∙ g
 
-is-half-requires : tie.Need-is-half-requires
-is-half-requires c κs = search needs
-
-nothing-beside-requires : tie.Need-nothing-beside-requires
-nothing-beside-requires c κs = search needs
-
-fault-requires : tie.Need-fault-requires
-fault-requires c κs = search needs
-
-body-requires : tie.Need-body-requires
-body-requires c κs = search needs
-
-pattern-requires : tie.Need-pattern-requires
-pattern-requires c κs = search needs
-
 returns : tie.Need-returns
 unfolding idleIn
 returns c =
@@ -62,11 +47,11 @@ pub is-idle-pattern-spec : {M : Type 1} → statement M
 is-idle-pattern-spec =
     tie.close
     (tie.spec
-    is-half-requires
-    nothing-beside-requires
-    fault-requires
-    body-requires
-    pattern-requires
+    (λ c κs. search needs)
+    (λ c κs. search needs)
+    (λ c κs. search needs)
+    (λ c κs. search needs)
+    (λ c κs. search needs)
     returns
     returns-2
     returns-3)

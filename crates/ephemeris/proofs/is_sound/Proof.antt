@@ -18,21 +18,9 @@ use Rattle.ephemeris.proofs.is_sound.Tie as tie
 time-test : (r : Record) {t : Towc} {q b : Bool} → t ≡ headIn r .towc → q ≡ towcRefused (t .0) → q ≡ b → towcRefused (towcIn r) ≡ b
 time-test r e f g = ap (λ (t : Towc). towcRefused (t .0)) (sym e) ∙ sym f ∙ g
 
-towc-requires : tie.Need-towc-requires
-towc-requires c κs = search needs
-
-refused-requires : tie.Need-refused-requires
-refused-requires c κs = search needs
-
 returns : tie.Need-returns
 unfolding sound
 returns c = rw (time-test (c .before .before .before .args .«record») (c .before .before .towc .ensures) (c .before .refused .ensures) (c .if1 .taken))
-
-nothing-beside-requires : tie.Need-nothing-beside-requires
-nothing-beside-requires c κs = search needs
-
-fault-requires : tie.Need-fault-requires
-fault-requires c κs = search needs
 
 returns-2 : tie.Need-returns-2
 unfolding sound
@@ -46,9 +34,9 @@ pub is-sound-spec : {M : Type 1} → statement M
 is-sound-spec =
     tie.close
     (tie.spec
-    towc-requires
-    refused-requires
+    (λ c κs. search needs)
+    (λ c κs. search needs)
     returns
-    nothing-beside-requires
-    fault-requires
+    (λ c κs. search needs)
+    (λ c κs. search needs)
     returns-2)

@@ -10,171 +10,6 @@ use Rattle.ephemeris.proofs.Joining.{first-half, second-half, whole-in,
 use Rattle.ephemeris.proofs.joined.Statement.{statement}
 use Rattle.ephemeris.proofs.joined.Tie as tie
 
-powers-requires : tie.Need-powers-requires
-powers-requires c κs = search needs
-
-powers-requires-2 : tie.Need-powers-requires-2
-powers-requires-2 c κs = search needs
-
-number-requires : tie.Need-number-requires
-number-requires c κs = search needs
-
-array-read-whole : tie.Need-array-read-whole
-array-read-whole c = search needs
-
-whole-requires : tie.Need-whole-requires
-whole-requires c κs = search needs
-
-array-read-signed : tie.Need-array-read-signed
-array-read-signed c = search needs
-
-signed-requires : tie.Need-signed-requires
-signed-requires c κs = search needs
-
-array-read-signed-2 : tie.Need-array-read-signed-2
-array-read-signed-2 c = search needs
-
-signed-requires-2 : tie.Need-signed-requires-2
-signed-requires-2 c κs = search needs
-
-array-read-signed-3 : tie.Need-array-read-signed-3
-array-read-signed-3 c = search needs
-
-signed-requires-3 : tie.Need-signed-requires-3
-signed-requires-3 c κs = search needs
-
-array-read-whole-2 : tie.Need-array-read-whole-2
-array-read-whole-2 c = search needs
-
-whole-requires-2 : tie.Need-whole-requires-2
-whole-requires-2 c κs = search needs
-
-array-read-whole-3 : tie.Need-array-read-whole-3
-array-read-whole-3 c = search needs
-
-whole-requires-3 : tie.Need-whole-requires-3
-whole-requires-3 c κs = search needs
-
-array-read-signed-4 : tie.Need-array-read-signed-4
-array-read-signed-4 c = search needs
-
-signed-requires-4 : tie.Need-signed-requires-4
-signed-requires-4 c κs = search needs
-
-array-read-signed-5 : tie.Need-array-read-signed-5
-array-read-signed-5 c = search needs
-
-signed-requires-5 : tie.Need-signed-requires-5
-signed-requires-5 c κs = search needs
-
-array-read-whole-4 : tie.Need-array-read-whole-4
-array-read-whole-4 c = search needs
-
-whole-requires-4 : tie.Need-whole-requires-4
-whole-requires-4 c κs = search needs
-
-array-read-flag : tie.Need-array-read-flag
-array-read-flag c = search needs
-
-flag-requires : tie.Need-flag-requires
-flag-requires c κs = search needs
-
-array-read-flag-2 : tie.Need-array-read-flag-2
-array-read-flag-2 c = search needs
-
-flag-requires-2 : tie.Need-flag-requires-2
-flag-requires-2 c κs = search needs
-
-array-read-signed-6 : tie.Need-array-read-signed-6
-array-read-signed-6 c = search needs
-
-signed-requires-6 : tie.Need-signed-requires-6
-signed-requires-6 c κs = search needs
-
-array-read-signed-7 : tie.Need-array-read-signed-7
-array-read-signed-7 c = search needs
-
-signed-requires-7 : tie.Need-signed-requires-7
-signed-requires-7 c κs = search needs
-
-array-read-signed-8 : tie.Need-array-read-signed-8
-array-read-signed-8 c = search needs
-
-signed-requires-8 : tie.Need-signed-requires-8
-signed-requires-8 c κs = search needs
-
-array-read-signed-9 : tie.Need-array-read-signed-9
-array-read-signed-9 c = search needs
-
-signed-requires-9 : tie.Need-signed-requires-9
-signed-requires-9 c κs = search needs
-
-array-read-signed-10 : tie.Need-array-read-signed-10
-array-read-signed-10 c = search needs
-
-signed-requires-10 : tie.Need-signed-requires-10
-signed-requires-10 c κs = search needs
-
-array-read-signed-11 : tie.Need-array-read-signed-11
-array-read-signed-11 c = search needs
-
-signed-requires-11 : tie.Need-signed-requires-11
-signed-requires-11 c κs = search needs
-
-array-read-signed-12 : tie.Need-array-read-signed-12
-array-read-signed-12 c = search needs
-
-signed-requires-12 : tie.Need-signed-requires-12
-signed-requires-12 c κs = search needs
-
-array-read-signed-13 : tie.Need-array-read-signed-13
-array-read-signed-13 c = search needs
-
-signed-requires-13 : tie.Need-signed-requires-13
-signed-requires-13 c κs = search needs
-
-array-read-whole-5 : tie.Need-array-read-whole-5
-array-read-whole-5 c = search needs
-
-whole-requires-5 : tie.Need-whole-requires-5
-whole-requires-5 c κs = search needs
-
-array-read-whole-6 : tie.Need-array-read-whole-6
-array-read-whole-6 c = search needs
-
-whole-requires-6 : tie.Need-whole-requires-6
-whole-requires-6 c κs = search needs
-
-array-read-whole-7 : tie.Need-array-read-whole-7
-array-read-whole-7 c = search needs
-
-whole-requires-7 : tie.Need-whole-requires-7
-whole-requires-7 c κs = search needs
-
-array-read-signed-14 : tie.Need-array-read-signed-14
-array-read-signed-14 c = search needs
-
-signed-requires-14 : tie.Need-signed-requires-14
-signed-requires-14 c κs = search needs
-
-array-read-signed-15 : tie.Need-array-read-signed-15
-array-read-signed-15 c = search needs
-
-signed-requires-15 : tie.Need-signed-requires-15
-signed-requires-15 c κs = search needs
-
-array-read-signed-16 : tie.Need-array-read-signed-16
-array-read-signed-16 c = search needs
-
-signed-requires-16 : tie.Need-signed-requires-16
-signed-requires-16 c κs = search needs
-
-array-read-signed-17 : tie.Need-array-read-signed-17
-array-read-signed-17 c = search needs
-
-signed-requires-17 : tie.Need-signed-requires-17
-signed-requires-17 c κs = search needs
-
 returns : tie.Need-returns
 unfolding ephemerisOf
 returns c =
@@ -247,59 +82,59 @@ pub joined-spec : {M : Type 1} → statement M
 joined-spec =
     tie.close
     (tie.spec
-    powers-requires
-    powers-requires-2
-    number-requires
-    array-read-whole
-    whole-requires
-    array-read-signed
-    signed-requires
-    array-read-signed-2
-    signed-requires-2
-    array-read-signed-3
-    signed-requires-3
-    array-read-whole-2
-    whole-requires-2
-    array-read-whole-3
-    whole-requires-3
-    array-read-signed-4
-    signed-requires-4
-    array-read-signed-5
-    signed-requires-5
-    array-read-whole-4
-    whole-requires-4
-    array-read-flag
-    flag-requires
-    array-read-flag-2
-    flag-requires-2
-    array-read-signed-6
-    signed-requires-6
-    array-read-signed-7
-    signed-requires-7
-    array-read-signed-8
-    signed-requires-8
-    array-read-signed-9
-    signed-requires-9
-    array-read-signed-10
-    signed-requires-10
-    array-read-signed-11
-    signed-requires-11
-    array-read-signed-12
-    signed-requires-12
-    array-read-signed-13
-    signed-requires-13
-    array-read-whole-5
-    whole-requires-5
-    array-read-whole-6
-    whole-requires-6
-    array-read-whole-7
-    whole-requires-7
-    array-read-signed-14
-    signed-requires-14
-    array-read-signed-15
-    signed-requires-15
-    array-read-signed-16
-    signed-requires-16
-    array-read-signed-17
-    signed-requires-17
+    (λ c κs. search needs)
+    (λ c κs. search needs)
+    (λ c κs. search needs)
+    (λ c. search needs)
+    (λ c κs. search needs)
+    (λ c. search needs)
+    (λ c κs. search needs)
+    (λ c. search needs)
+    (λ c κs. search needs)
+    (λ c. search needs)
+    (λ c κs. search needs)
+    (λ c. search needs)
+    (λ c κs. search needs)
+    (λ c. search needs)
+    (λ c κs. search needs)
+    (λ c. search needs)
+    (λ c κs. search needs)
+    (λ c. search needs)
+    (λ c κs. search needs)
+    (λ c. search needs)
+    (λ c κs. search needs)
+    (λ c. search needs)
+    (λ c κs. search needs)
+    (λ c. search needs)
+    (λ c κs. search needs)
+    (λ c. search needs)
+    (λ c κs. search needs)
+    (λ c. search needs)
+    (λ c κs. search needs)
+    (λ c. search needs)
+    (λ c κs. search needs)
+    (λ c. search needs)
+    (λ c κs. search needs)
+    (λ c. search needs)
+    (λ c κs. search needs)
+    (λ c. search needs)
+    (λ c κs. search needs)
+    (λ c. search needs)
+    (λ c κs. search needs)
+    (λ c. search needs)
+    (λ c κs. search needs)
+    (λ c. search needs)
+    (λ c κs. search needs)
+    (λ c. search needs)
+    (λ c κs. search needs)
+    (λ c. search needs)
+    (λ c κs. search needs)
+    (λ c. search needs)
+    (λ c κs. search needs)
+    (λ c. search needs)
+    (λ c κs. search needs)
+    (λ c. search needs)
+    (λ c κs. search needs)
+    (λ c. search needs)
+    (λ c κs. search needs)
     returns)

@@ -7,23 +7,11 @@ use Rattle.ephemeris.proofs.Cases.{not-first, not-second, both-halves}
 use Rattle.ephemeris.proofs.pair.Statement.{statement}
 use Rattle.ephemeris.proofs.pair.Tie as tie
 
-enum-known-first : tie.Need-enum-known-first
-enum-known-first c = search needs
-
-refused-requires : tie.Need-refused-requires
-refused-requires c κs = search needs
-
 returns : tie.Need-returns
 unfolding pairOf
 returns c =
     let s = c .before .before in
     c .refused .ensures ∙ ap answer (not-first (s .args .first) (s .args .second) (c .before .match .keys2))
-
-enum-known-second : tie.Need-enum-known-second
-enum-known-second c = search needs
-
-refused-requires-2 : tie.Need-refused-requires-2
-refused-requires-2 c κs = search needs
 
 returns-2 : tie.Need-returns-2
 unfolding pairOf
@@ -33,12 +21,6 @@ returns-2 c =
     c .refused2 .ensures
     ∙ ap answer (not-second (f .first .given .0 .0) s (c .before .match2 .keys2) ∙ sym (ap (λ (r : Record). paired? r s) (f .first .given .1)))
 
-fit-requires : tie.Need-fit-requires
-fit-requires c κs = search needs
-
-joined-requires : tie.Need-joined-requires
-joined-requires c κs = search needs
-
 returns-3 : tie.Need-returns-3
 unfolding pairOf
 returns-3 c =
@@ -47,9 +29,6 @@ returns-3 c =
     let f = g .before .before .before in
     (λ i. record { refusal = 0; ephemeris = c .joined .ensures i })
     ∙ ap answer (both-halves (f .first .given .1) (g .second .given .1) (sym (d .fit .ensures) ∙ c .before .if1 .taken))
-
-refused-requires-3 : tie.Need-refused-requires-3
-refused-requires-3 c κs = search needs
 
 returns-4 : tie.Need-returns-4
 unfolding pairOf
@@ -63,14 +42,14 @@ pub pair-spec : {M : Type 1} → statement M
 pair-spec =
     tie.close
     (tie.spec
-    enum-known-first
-    refused-requires
+    (λ c. search needs)
+    (λ c κs. search needs)
     returns
-    enum-known-second
-    refused-requires-2
+    (λ c. search needs)
+    (λ c κs. search needs)
     returns-2
-    fit-requires
-    joined-requires
+    (λ c κs. search needs)
+    (λ c κs. search needs)
     returns-3
-    refused-requires-3
+    (λ c κs. search needs)
     returns-4)

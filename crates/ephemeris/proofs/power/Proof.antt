@@ -5,9 +5,6 @@ use Rattle.ephemeris.proofs.Biased.{word-number, word-is}
 use Rattle.ephemeris.proofs.power.Statement.{statement}
 use Rattle.ephemeris.proofs.power.Tie as tie
 
-mul-result : tie.Need-mul-result
-mul-result c = search needs
-
 float-from-bits-result : tie.Need-float-from-bits-result
 float-from-bits-result c = word-number (c .args .k)
 
@@ -15,4 +12,4 @@ returns : tie.Need-returns
 returns c = word-is (c .args .k) (c .pre .0) (c .pre .1)
 
 pub power-spec : {M : Type 1} → statement M
-power-spec = tie.close (tie.spec mul-result float-from-bits-result returns)
+power-spec = tie.close (tie.spec (λ c. search needs) float-from-bits-result returns)

@@ -3,11 +3,8 @@ use borrow.Author.Needs.{needs}
 use Rattle.ephemeris.proofs.refused.Statement.{statement}
 use Rattle.ephemeris.proofs.refused.Tie as tie
 
-no-ephemeris-requires : tie.Need-no-ephemeris-requires
-no-ephemeris-requires c κs = search needs
-
 returns : tie.Need-returns
 returns c = λ i. record { refusal = 11; ephemeris = c .no-ephemeris .ensures i }
 
 pub refused-spec : {M : Type 1} → statement M
-refused-spec = tie.close (tie.spec no-ephemeris-requires returns)
+refused-spec = tie.close (tie.spec (λ c κs. search needs) returns)

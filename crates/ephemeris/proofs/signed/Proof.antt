@@ -6,13 +6,10 @@ use Rattle.ephemeris.proofs.Scaling.{product, narrow}
 use Rattle.ephemeris.proofs.signed.Statement.{statement}
 use Rattle.ephemeris.proofs.signed.Tie as tie
 
-int-to-float-result : tie.Need-int-to-float-result
-int-to-float-result c = search needs
-
 returns : tie.Need-returns
 returns c =
     let s = c .before in
     product _ (s .args .raw) _ (toZ-ofZ w32 (s .args .raw) (s .fits .raw)) (narrow (s .args .raw) (s .fits .raw))
 
 pub signed-spec : {M : Type 1} → statement M
-signed-spec = tie.close (tie.spec int-to-float-result returns)
+signed-spec = tie.close (tie.spec (λ c. search needs) returns)

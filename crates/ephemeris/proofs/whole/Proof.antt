@@ -8,11 +8,8 @@ use Rattle.ephemeris.proofs.Scaling.{product}
 use Rattle.ephemeris.proofs.whole.Statement.{statement}
 use Rattle.ephemeris.proofs.whole.Tie as tie
 
-int-to-float-result : tie.Need-int-to-float-result
-int-to-float-result c = search needs
-
 returns : tie.Need-returns
 returns c = let s = c .before in product _ (pos (s .args .raw)) _ refl (lt-of-lt-of-le (s .fits .raw .fits) (lit≤ tt))
 
 pub whole-spec : {M : Type 1} → statement M
-whole-spec = tie.close (tie.spec int-to-float-result returns)
+whole-spec = tie.close (tie.spec (λ c. search needs) returns)

@@ -7,27 +7,6 @@ use Rattle.fields.specs.Table.{rowsOf, head, subframe1, subframe2, ionoG
 use Rattle.fields.proofs.count.Statement.{statement}
 use Rattle.fields.proofs.count.Tie as tie
 
-enum-told : tie.Need-enum-told
-enum-told c = search needs
-
-enum-told-2 : tie.Need-enum-told-2
-enum-told-2 c = search needs
-
-enum-told-3 : tie.Need-enum-told-3
-enum-told-3 c = search needs
-
-enum-told-4 : tie.Need-enum-told-4
-enum-told-4 c = search needs
-
-enum-told-5 : tie.Need-enum-told-5
-enum-told-5 c = search needs
-
-enum-told-6 : tie.Need-enum-told-6
-enum-told-6 c = search needs
-
-enum-told-7 : tie.Need-enum-told-7
-enum-told-7 c = search needs
-
 returns : tie.Need-returns
 unfolding head subframe1
 returns c = sym (ap (λ (l : Layout). length (rowsOf l)) (c .enum-told .given .1))
@@ -60,13 +39,13 @@ pub count-spec : {M : Type 1} → statement M
 count-spec =
     tie.close
     (tie.spec
-    enum-told
-    enum-told-2
-    enum-told-3
-    enum-told-4
-    enum-told-5
-    enum-told-6
-    enum-told-7
+    (λ c. search needs)
+    (λ c. search needs)
+    (λ c. search needs)
+    (λ c. search needs)
+    (λ c. search needs)
+    (λ c. search needs)
+    (λ c. search needs)
     returns
     returns-2
     returns-3

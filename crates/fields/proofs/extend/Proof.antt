@@ -10,17 +10,8 @@ use Rattle.fields.proofs.Twos.{twos-low, twos-high}
 use Rattle.fields.proofs.extend.Statement.{statement}
 use Rattle.fields.proofs.extend.Tie as tie
 
-sub-half : tie.Need-sub-half
-sub-half c = search needs
-
-shl-half : tie.Need-shl-half
-shl-half c = search needs
-
 sub-result : tie.Need-sub-result
 sub-result c = let w = c .before .args .width in omega (arith, half-shifted w (c .before .pre .1), pow-pos (w - 1))
-
-sub-result-2 : tie.Need-sub-result-2
-sub-result-2 c = search needs
 
 sub-result-3 : tie.Need-sub-result-3
 sub-result-3 c =
@@ -49,4 +40,4 @@ returns-2 c =
 pub extend-spec : {M : Type 1} → statement M
 extend-spec =
     tie.close
-    (tie.spec sub-half shl-half sub-result sub-result-2 sub-result-3 add-result returns returns-2)
+    (tie.spec (λ c. search needs) (λ c. search needs) sub-result (λ c. search needs) sub-result-3 add-result returns returns-2)

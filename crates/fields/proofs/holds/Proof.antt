@@ -14,12 +14,6 @@ use Rattle.fields.proofs.Halves.{half-small, shifted, half-shifted}
 use Rattle.fields.proofs.holds.Statement.{statement}
 use Rattle.fields.proofs.holds.Tie as tie
 
-sub-bound : tie.Need-sub-bound
-sub-bound c = search needs
-
-shl-bound : tie.Need-shl-bound
-shl-bound c = search needs
-
 -- the sign is that of the branch
 as-fits : (c : tie.Start) (s : Bool) → c .args .row .2 ≡ s → pick s (inSigned (width (c .args .row)) (c .args .n)) (ltb (c .args .n) (2 ^ width (c .args .row))) ≡ fits (c .args .row) (c .args .n)
 unfolding fits
@@ -34,12 +28,6 @@ returns c =
 
 sub-least : tie.Need-sub-least
 sub-least c = let w = width (c .before .before .args .row) in omega (arith, half-shifted w (c .before .before .pre .1), pow-pos (w - 1))
-
-sub-least-2 : tie.Need-sub-least-2
-sub-least-2 c = search needs
-
-shl-end : tie.Need-shl-end
-shl-end c = search needs
 
 returns-2 : tie.Need-returns-2
 returns-2 c =
@@ -60,4 +48,4 @@ returns-3 c =
 pub holds-spec : {M : Type 1} → statement M
 holds-spec =
     tie.close
-    (tie.spec sub-bound shl-bound returns sub-least sub-least-2 shl-end returns-2 returns-3)
+    (tie.spec (λ c. search needs) (λ c. search needs) returns sub-least (λ c. search needs) (λ c. search needs) returns-2 returns-3)

@@ -11,66 +11,6 @@ use Rattle.fields.specs.Table.{rowsOf, head, messageId, prn, subframe1, 
 use Rattle.fields.proofs.rows.Statement.{statement}
 use Rattle.fields.proofs.rows.Tie as tie
 
-head-rows-requires : tie.Need-head-rows-requires
-head-rows-requires c κs = search needs
-
-enum-told : tie.Need-enum-told
-enum-told c = search needs
-
-subframe-rows-requires : tie.Need-subframe-rows-requires
-subframe-rows-requires c κs = search needs
-
-enum-told-2 : tie.Need-enum-told-2
-enum-told-2 c = search needs
-
-subframe-rows-requires-2 : tie.Need-subframe-rows-requires-2
-subframe-rows-requires-2 c κs = search needs
-
-enum-told-3 : tie.Need-enum-told-3
-enum-told-3 c = search needs
-
-grid-rows-requires : tie.Need-grid-rows-requires
-grid-rows-requires c κs = search needs
-
-head-rows-requires-2 : tie.Need-head-rows-requires-2
-head-rows-requires-2 c κs = search needs
-
-enum-told-4 : tie.Need-enum-told-4
-enum-told-4 c = search needs
-
-message-rows-requires : tie.Need-message-rows-requires
-message-rows-requires c κs = search needs
-
-head-rows-requires-3 : tie.Need-head-rows-requires-3
-head-rows-requires-3 c κs = search needs
-
-enum-told-5 : tie.Need-enum-told-5
-enum-told-5 c = search needs
-
-message-rows-requires-2 : tie.Need-message-rows-requires-2
-message-rows-requires-2 c κs = search needs
-
-head-rows-requires-4 : tie.Need-head-rows-requires-4
-head-rows-requires-4 c κs = search needs
-
-enum-told-6 : tie.Need-enum-told-6
-enum-told-6 c = search needs
-
-message-rows-requires-3 : tie.Need-message-rows-requires-3
-message-rows-requires-3 c κs = search needs
-
-head-rows-requires-5 : tie.Need-head-rows-requires-5
-head-rows-requires-5 c κs = search needs
-
-enum-told-7 : tie.Need-enum-told-7
-enum-told-7 c = search needs
-
-data-rows-requires : tie.Need-data-rows-requires
-data-rows-requires c κs = search needs
-
-head-rows-requires-6 : tie.Need-head-rows-requires-6
-head-rows-requires-6 c κs = search needs
-
 returns : tie.Need-returns
 unfolding padded storedHead head messageId prn storedSubframes subframe1 subframe2
 returns c =
@@ -129,26 +69,26 @@ pub rows-spec : {M : Type 1} → statement M
 rows-spec =
     tie.close
     (tie.spec
-    head-rows-requires
-    enum-told
-    subframe-rows-requires
-    enum-told-2
-    subframe-rows-requires-2
-    enum-told-3
-    grid-rows-requires
-    head-rows-requires-2
-    enum-told-4
-    message-rows-requires
-    head-rows-requires-3
-    enum-told-5
-    message-rows-requires-2
-    head-rows-requires-4
-    enum-told-6
-    message-rows-requires-3
-    head-rows-requires-5
-    enum-told-7
-    data-rows-requires
-    head-rows-requires-6
+    (λ c κs. search needs)
+    (λ c. search needs)
+    (λ c κs. search needs)
+    (λ c. search needs)
+    (λ c κs. search needs)
+    (λ c. search needs)
+    (λ c κs. search needs)
+    (λ c κs. search needs)
+    (λ c. search needs)
+    (λ c κs. search needs)
+    (λ c κs. search needs)
+    (λ c. search needs)
+    (λ c κs. search needs)
+    (λ c κs. search needs)
+    (λ c. search needs)
+    (λ c κs. search needs)
+    (λ c κs. search needs)
+    (λ c. search needs)
+    (λ c κs. search needs)
+    (λ c κs. search needs)
     returns
     returns-2
     returns-3

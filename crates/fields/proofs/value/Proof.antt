@@ -14,12 +14,6 @@ use Rattle.fields.specs.Table.{first, width}
 use Rattle.fields.proofs.value.Statement.{statement}
 use Rattle.fields.proofs.value.Tie as tie
 
-sub-at : tie.Need-sub-at
-sub-at c = search needs
-
-field-requires : tie.Need-field-requires
-field-requires c κs = search needs
-
 -- the field's bits, and the number by the sign of the branch
 spelt : tie.Start → ℕ
 spelt c = number (part (c .args .body .now) (first (c .args .row) - 1) (width (c .args .row)))
@@ -50,4 +44,4 @@ unfolding spelt
 returns-2 c = c .before .field .ensures ∙ ap pattern (as-value (c .before .before .before .before) false (c .if1 .left))
 
 pub value-spec : {M : Type 1} → statement M
-value-spec = tie.close (tie.spec sub-at field-requires extend-requires returns returns-2)
+value-spec = tie.close (tie.spec (λ c. search needs) (λ c κs. search needs) extend-requires returns returns-2)

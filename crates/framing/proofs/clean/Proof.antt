@@ -51,9 +51,6 @@ loop-holds c = (omega arith, le-leb 0 (c .before .args .top) (omega arith))
 shared-slice-read-higher : tie.Need-shared-slice-read-higher Inv-loop μ-loop
 shared-slice-read-higher c = omega arith
 
-higher-requires : tie.Need-higher-requires Inv-loop μ-loop
-higher-requires c κs = search needs
-
 add-i : tie.Need-add-i Inv-loop μ-loop
 add-i c = omega arith
 
@@ -83,7 +80,7 @@ clean-spec =
     μ-loop
     loop-holds
     shared-slice-read-higher
-    higher-requires
+    (λ c κs. search needs)
     add-i
     loop-less
     loop-again

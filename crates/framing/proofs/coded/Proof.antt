@@ -6,15 +6,9 @@ use Rattle.framing.proofs.Grid.{emptied-by-columns}
 use Rattle.framing.proofs.coded.Statement.{statement}
 use Rattle.framing.proofs.coded.Tie as tie
 
-fill-rows-requires : tie.Need-fill-rows-requires
-fill-rows-requires c κs = search needs
-
-by-columns-requires : tie.Need-by-columns-requires
-by-columns-requires c κs = search needs
-
 returns : tie.Need-returns
 unfolding codedOf
 returns c = c .by-columns .ensures ∙ emptied-by-columns _ _ (c .before .fill-rows .ensures)
 
 pub coded-spec : {M : Type 1} → statement M
-coded-spec = tie.close (tie.spec fill-rows-requires by-columns-requires returns)
+coded-spec = tie.close (tie.spec (λ c κs. search needs) (λ c κs. search needs) returns)

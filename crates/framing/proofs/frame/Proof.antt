@@ -8,15 +8,9 @@ use Rattle.framing.proofs.Grid.{emptied-by-rows}
 use Rattle.framing.proofs.frame.Statement.{statement}
 use Rattle.framing.proofs.frame.Tie as tie
 
-fill-columns-requires : tie.Need-fill-columns-requires
-fill-columns-requires c κs = search needs
-
-by-rows-requires : tie.Need-by-rows-requires
-by-rows-requires c κs = search needs
-
 returns : tie.Need-returns
 unfolding framed
 returns c = c .by-rows .ensures ∙ ap (_++_ eb90) (emptied-by-rows _ _ (c .before .fill-columns .ensures))
 
 pub frame-spec : {M : Type 1} → statement M
-frame-spec = tie.close (tie.spec fill-columns-requires by-rows-requires returns)
+frame-spec = tie.close (tie.spec (λ c κs. search needs) (λ c κs. search needs) returns)

@@ -5,12 +5,6 @@ use Rattle.idle.specs.Idle.{idleOf}
 use Rattle.idle.proofs.idle.Statement.{statement}
 use Rattle.idle.proofs.idle.Tie as tie
 
-row-of-requires : tie.Need-row-of-requires
-row-of-requires c κs = search needs
-
-pattern-in-requires : tie.Need-pattern-in-requires
-pattern-in-requires c κs = search needs
-
 returns : tie.Need-returns
 unfolding idleOf
 returns c =
@@ -22,4 +16,4 @@ unfolding idleOf
 returns-2 c = sym (rw (← c .before .row-of .ensures, c .if1 .left) refl)
 
 pub idle-spec : {M : Type 1} → statement M
-idle-spec = tie.close (tie.spec row-of-requires pattern-in-requires returns returns-2)
+idle-spec = tie.close (tie.spec (λ c κs. search needs) (λ c κs. search needs) returns returns-2)

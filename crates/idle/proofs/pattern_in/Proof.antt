@@ -10,15 +10,6 @@ use Rattle.idle.proofs.Fitting.{row-inside}
 use Rattle.idle.proofs.pattern_in.Statement.{statement}
 use Rattle.idle.proofs.pattern_in.Tie as tie
 
-row-of-requires : tie.Need-row-of-requires
-row-of-requires c κs = search needs
-
-shared-slice-read-lowest : tie.Need-shared-slice-read-lowest
-shared-slice-read-lowest c = search needs
-
-lowest-requires : tie.Need-lowest-requires
-lowest-requires c κs = search needs
-
 sub-alternate : tie.Need-sub-alternate
 sub-alternate c =
     let s = c .before .before .before .before in
@@ -61,9 +52,9 @@ pub pattern-in-spec : {M : Type 1} → statement M
 pattern-in-spec =
     tie.close
     (tie.spec
-    row-of-requires
-    shared-slice-read-lowest
-    lowest-requires
+    (λ c κs. search needs)
+    (λ c. search needs)
+    (λ c κs. search needs)
     sub-alternate
     add-alternate
     sub-alternate-2

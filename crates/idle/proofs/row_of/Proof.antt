@@ -10,36 +10,6 @@ use Rattle.idle.specs.Idle.{rows}
 use Rattle.idle.proofs.row_of.Statement.{statement}
 use Rattle.idle.proofs.row_of.Tie as tie
 
-shared-slice-read-lowest : tie.Need-shared-slice-read-lowest
-shared-slice-read-lowest c = search needs
-
-lowest-requires : tie.Need-lowest-requires
-lowest-requires c κs = search needs
-
-wide-requires : tie.Need-wide-requires
-wide-requires c κs = search needs
-
-mul-id : tie.Need-mul-id
-mul-id c = search needs
-
-shared-slice-read-lowest-2 : tie.Need-shared-slice-read-lowest-2
-shared-slice-read-lowest-2 c = search needs
-
-lowest-requires-2 : tie.Need-lowest-requires-2
-lowest-requires-2 c κs = search needs
-
-wide-requires-2 : tie.Need-wide-requires-2
-wide-requires-2 c κs = search needs
-
-add-id : tie.Need-add-id
-add-id c = search needs
-
-mul-result : tie.Need-mul-result
-mul-result c = search needs
-
-array-copy-out-result : tie.Need-array-copy-out-result
-array-copy-out-result c = search needs
-
 returns : tie.Need-returns
 unfolding rows number
 returns c =
@@ -53,14 +23,14 @@ pub row-of-spec : {M : Type 1} → statement M
 row-of-spec =
     tie.close
     (tie.spec
-    shared-slice-read-lowest
-    lowest-requires
-    wide-requires
-    mul-id
-    shared-slice-read-lowest-2
-    lowest-requires-2
-    wide-requires-2
-    add-id
-    mul-result
-    array-copy-out-result
+    (λ c. search needs)
+    (λ c κs. search needs)
+    (λ c κs. search needs)
+    (λ c. search needs)
+    (λ c. search needs)
+    (λ c κs. search needs)
+    (λ c κs. search needs)
+    (λ c. search needs)
+    (λ c. search needs)
+    (λ c. search needs)
     returns)

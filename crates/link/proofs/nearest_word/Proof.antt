@@ -6,22 +6,10 @@ use Rattle.link.proofs.Outcomes.{nearest-told, none-told}
 use Rattle.link.proofs.nearest_word.Statement.{statement}
 use Rattle.link.proofs.nearest_word.Tie as tie
 
-coded-requires : tie.Need-coded-requires
-coded-requires c κs = search needs
-
-nearest-requires : tie.Need-nearest-requires
-nearest-requires c κs = search needs
-
-refuse-requires : tie.Need-refuse-requires
-refuse-requires c κs = search needs
-
 returns : tie.Need-returns
 returns c =
     let found = c .before .before in
     c .refuse .ensures ∙ none-told _ _ _ (found .before .before .before .coded .ensures) _ (found .nearest .ensures .0) (c .before .if1 .taken)
-
-agrees-requires : tie.Need-agrees-requires
-agrees-requires c κs = search needs
 
 returns-2 : tie.Need-returns-2
 returns-2 c =
@@ -32,4 +20,4 @@ returns-2 c =
 pub nearest-word-spec : {M : Type 1} → statement M
 nearest-word-spec =
     tie.close
-    (tie.spec coded-requires nearest-requires refuse-requires returns agrees-requires returns-2)
+    (tie.spec (λ c κs. search needs) (λ c κs. search needs) (λ c κs. search needs) returns (λ c κs. search needs) returns-2)

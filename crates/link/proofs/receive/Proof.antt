@@ -45,32 +45,11 @@ module _ (c : tie.After-sync) where
       → bySync 1 (c .before .before .before .before .before .args .symbols .now) p ≡ receiveOf 1 (c .before .before .before .before .before .args .symbols .now)
   by-sync p e = sym (synced 1 _ p clean (sym (c .sync .ensures) ∙ e))
 
-clean-requires : tie.Need-clean-requires
-clean-requires c κs = search needs
-
-sync-requires : tie.Need-sync-requires
-sync-requires c κs = search needs
-
-enum-told : tie.Need-enum-told
-enum-told c = search needs
-
 nearest-word-requires : tie.Need-nearest-word-requires
 nearest-word-requires c κs = bits (c .before .before) false
 
-enum-told-2 : tie.Need-enum-told-2
-enum-told-2 c = search needs
-
 nearest-word-requires-2 : tie.Need-nearest-word-requires-2
 nearest-word-requires-2 c κs = bits (c .before .before) true
-
-enum-told-3 : tie.Need-enum-told-3
-enum-told-3 c = search needs
-
-refuse-requires : tie.Need-refuse-requires
-refuse-requires c κs = search needs
-
-refuse-requires-2 : tie.Need-refuse-requires-2
-refuse-requires-2 c κs = search needs
 
 returns : tie.Need-returns
 returns c = c .nearest-word .ensures ∙ by-sync (c .before .before .before) Upright (upright _ (c .before .before .match .keys1))
@@ -88,15 +67,15 @@ pub receive-spec : {M : Type 1} → statement M
 receive-spec =
     tie.close
     (tie.spec
-    clean-requires
-    sync-requires
-    enum-told
+    (λ c κs. search needs)
+    (λ c κs. search needs)
+    (λ c. search needs)
     nearest-word-requires
-    enum-told-2
+    (λ c. search needs)
     nearest-word-requires-2
-    enum-told-3
-    refuse-requires
-    refuse-requires-2
+    (λ c. search needs)
+    (λ c κs. search needs)
+    (λ c κs. search needs)
     returns
     returns-2
     returns-3

@@ -7,15 +7,9 @@ use Rattle.link.specs.Link.{sentOf}
 use Rattle.link.proofs.send.Statement.{statement}
 use Rattle.link.proofs.send.Tie as tie
 
-encode-requires : tie.Need-encode-requires
-encode-requires c κs = search needs
-
-frame-requires : tie.Need-frame-requires
-frame-requires c κs = search needs
-
 returns : tie.Need-returns
 unfolding sentOf
 returns c = c .frame .ensures ∙ ap framed (c .before .before .encode .ensures)
 
 pub send-spec : {M : Type 1} → statement M
-send-spec = tie.close (tie.spec encode-requires frame-requires returns)
+send-spec = tie.close (tie.spec (λ c κs. search needs) (λ c κs. search needs) returns)

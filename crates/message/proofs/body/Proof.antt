@@ -5,17 +5,8 @@ use Rattle.message.proofs.Laying.{laid-body}
 use Rattle.message.proofs.body.Statement.{statement}
 use Rattle.message.proofs.body.Tie as tie
 
-layout-requires : tie.Need-layout-requires
-layout-requires c κs = search needs
-
-numbers-of-requires : tie.Need-numbers-of-requires
-numbers-of-requires c κs = search needs
-
-write-requires : tie.Need-write-requires
-write-requires c κs = search needs
-
 returns : tie.Need-returns
 returns c = c .write .ensures ∙ laid-body _ _ _ _ (c .before .before .layout .ensures) (c .before .numbers-of .ensures)
 
 pub body-spec : {M : Type 1} → statement M
-body-spec = tie.close (tie.spec layout-requires numbers-of-requires write-requires returns)
+body-spec = tie.close (tie.spec (λ c κs. search needs) (λ c κs. search needs) (λ c κs. search needs) returns)

@@ -9,15 +9,6 @@ use borrow.Author.Needs.{needs}
 use Rattle.message.proofs.fault.Statement.{statement}
 use Rattle.message.proofs.fault.Tie as tie
 
-layout-requires : tie.Need-layout-requires
-layout-requires c κs = search needs
-
-numbers-of-requires : tie.Need-numbers-of-requires
-numbers-of-requires c κs = search needs
-
-fault-requires : tie.Need-fault-requires
-fault-requires c κs = search needs
-
 cast-result : tie.Need-cast-result
 cast-result c =
     let a = c .before .before .before .before .args in
@@ -32,9 +23,6 @@ returns c =
     let e : c .before .fault .result ≡ recordFault (a .«record») (a .beside) =
     c .before .fault .ensures ∙ laid-fault _ _ _ _ (c .before .before .before .layout .ensures) (c .before .before .numbers-of .ensures) in
     rw (ne-eqb (recordFault (a .«record») (a .beside)) 0 (λ z. c .if1 .taken (e ∙ z))) e
-
-unused-zero-requires : tie.Need-unused-zero-requires
-unused-zero-requires c κs = search needs
 
 returns-2 : tie.Need-returns-2
 unfolding faultOf
@@ -62,11 +50,11 @@ pub fault-spec : {M : Type 1} → statement M
 fault-spec =
     tie.close
     (tie.spec
-    layout-requires
-    numbers-of-requires
-    fault-requires
+    (λ c κs. search needs)
+    (λ c κs. search needs)
+    (λ c κs. search needs)
     cast-result
     returns
-    unused-zero-requires
+    (λ c κs. search needs)
     returns-2
     returns-3)

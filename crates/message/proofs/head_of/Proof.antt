@@ -5,33 +5,6 @@ use borrow.Author.Needs.{needs}
 use Rattle.message.proofs.head_of.Statement.{statement}
 use Rattle.message.proofs.head_of.Tie as tie
 
-enum-known-record : tie.Need-enum-known-record
-enum-known-record c = search needs
-
-enum-known-record-2 : tie.Need-enum-known-record-2
-enum-known-record-2 c = search needs
-
-enum-known-record-3 : tie.Need-enum-known-record-3
-enum-known-record-3 c = search needs
-
-enum-known-record-4 : tie.Need-enum-known-record-4
-enum-known-record-4 c = search needs
-
-enum-known-record-5 : tie.Need-enum-known-record-5
-enum-known-record-5 c = search needs
-
-enum-known-record-6 : tie.Need-enum-known-record-6
-enum-known-record-6 c = search needs
-
-enum-known-record-7 : tie.Need-enum-known-record-7
-enum-known-record-7 c = search needs
-
-enum-known-record-8 : tie.Need-enum-known-record-8
-enum-known-record-8 c = search needs
-
-enum-known-record-9 : tie.Need-enum-known-record-9
-enum-known-record-9 c = search needs
-
 returns : tie.Need-returns
 returns c = sym (ap headIn (c .before .before .«record» .given .1))
 
@@ -63,15 +36,15 @@ pub head-of-spec : {M : Type 1} → statement M
 head-of-spec =
     tie.close
     (tie.spec
-    enum-known-record
-    enum-known-record-2
-    enum-known-record-3
-    enum-known-record-4
-    enum-known-record-5
-    enum-known-record-6
-    enum-known-record-7
-    enum-known-record-8
-    enum-known-record-9
+    (λ c. search needs)
+    (λ c. search needs)
+    (λ c. search needs)
+    (λ c. search needs)
+    (λ c. search needs)
+    (λ c. search needs)
+    (λ c. search needs)
+    (λ c. search needs)
+    (λ c. search needs)
     returns
     returns-2
     returns-3

@@ -5,60 +5,6 @@ use borrow.Author.Needs.{needs}
 use Rattle.message.proofs.id_of.Statement.{statement}
 use Rattle.message.proofs.id_of.Tie as tie
 
-enum-told : tie.Need-enum-told
-enum-told c = search needs
-
-enum-told-2 : tie.Need-enum-told-2
-enum-told-2 c = search needs
-
-enum-known-record : tie.Need-enum-known-record
-enum-known-record c = search needs
-
-slot-id-requires : tie.Need-slot-id-requires
-slot-id-requires c κs = search needs
-
-enum-known-record-2 : tie.Need-enum-known-record-2
-enum-known-record-2 c = search needs
-
-slot-id-requires-2 : tie.Need-slot-id-requires-2
-slot-id-requires-2 c κs = search needs
-
-enum-known-record-3 : tie.Need-enum-known-record-3
-enum-known-record-3 c = search needs
-
-slot-id-requires-3 : tie.Need-slot-id-requires-3
-slot-id-requires-3 c κs = search needs
-
-enum-known-record-4 : tie.Need-enum-known-record-4
-enum-known-record-4 c = search needs
-
-slot-id-requires-4 : tie.Need-slot-id-requires-4
-slot-id-requires-4 c κs = search needs
-
-enum-known-record-5 : tie.Need-enum-known-record-5
-enum-known-record-5 c = search needs
-
-slot-id-requires-5 : tie.Need-slot-id-requires-5
-slot-id-requires-5 c κs = search needs
-
-enum-known-record-6 : tie.Need-enum-known-record-6
-enum-known-record-6 c = search needs
-
-slot-id-requires-6 : tie.Need-slot-id-requires-6
-slot-id-requires-6 c κs = search needs
-
-enum-known-record-7 : tie.Need-enum-known-record-7
-enum-known-record-7 c = search needs
-
-slot-id-requires-7 : tie.Need-slot-id-requires-7
-slot-id-requires-7 c κs = search needs
-
-returns : tie.Need-returns
-returns c = search needs
-
-returns-2 : tie.Need-returns-2
-returns-2 c = search needs
-
 returns-3 : tie.Need-returns-3
 returns-3 c = c .slot-id .ensures ∙ sym (ap idOf (c .before .before .«record» .given .1))
 
@@ -84,24 +30,24 @@ pub id-of-spec : {M : Type 1} → statement M
 id-of-spec =
     tie.close
     (tie.spec
-    enum-told
-    enum-told-2
-    enum-known-record
-    slot-id-requires
-    enum-known-record-2
-    slot-id-requires-2
-    enum-known-record-3
-    slot-id-requires-3
-    enum-known-record-4
-    slot-id-requires-4
-    enum-known-record-5
-    slot-id-requires-5
-    enum-known-record-6
-    slot-id-requires-6
-    enum-known-record-7
-    slot-id-requires-7
-    returns
-    returns-2
+    (λ c. search needs)
+    (λ c. search needs)
+    (λ c. search needs)
+    (λ c κs. search needs)
+    (λ c. search needs)
+    (λ c κs. search needs)
+    (λ c. search needs)
+    (λ c κs. search needs)
+    (λ c. search needs)
+    (λ c κs. search needs)
+    (λ c. search needs)
+    (λ c κs. search needs)
+    (λ c. search needs)
+    (λ c κs. search needs)
+    (λ c. search needs)
+    (λ c κs. search needs)
+    (λ c. search needs)
+    (λ c. search needs)
     returns-3
     returns-4
     returns-5

@@ -13,12 +13,9 @@ returns-2 : tie.Need-returns-2
 unfolding layoutBy
 returns-2 c = rw (c .if2 .taken)
 
-message-layout-requires : tie.Need-message-layout-requires
-message-layout-requires c κs = search needs
-
 returns-3 : tie.Need-returns-3
 unfolding layoutBy
 returns-3 c = rw (ne-eqb _ 0 (c .before .before .if1 .left), ne-eqb _ 1 (c .before .if2 .left)) (c .message-layout .ensures)
 
 pub layout-by-spec : {M : Type 1} → statement M
-layout-by-spec = tie.close (tie.spec returns returns-2 message-layout-requires returns-3)
+layout-by-spec = tie.close (tie.spec returns returns-2 (λ c κs. search needs) returns-3)

@@ -15,27 +15,6 @@ use borrow.Author.Needs.{needs}
 use Rattle.message.proofs.parse.Statement.{statement}
 use Rattle.message.proofs.parse.Tie as tie
 
-read-requires : tie.Need-read-requires
-read-requires c κs = search needs
-
-array-read-subframe : tie.Need-array-read-subframe
-array-read-subframe c = search needs
-
-array-read-id : tie.Need-array-read-id
-array-read-id c = search needs
-
-layout-by-requires : tie.Need-layout-by-requires
-layout-by-requires c κs = search needs
-
-read-requires-2 : tie.Need-read-requires-2
-read-requires-2 c κs = search needs
-
-raw-of-requires : tie.Need-raw-of-requires
-raw-of-requires c κs = search needs
-
-entry-requires : tie.Need-entry-requires
-entry-requires c κs = search needs
-
 returns : tie.Need-returns
 unfolding fromBody patterns valueAt head messageId
 returns c =
@@ -54,11 +33,11 @@ pub parse-spec : {M : Type 1} → statement M
 parse-spec =
     tie.close
     (tie.spec
-    read-requires
-    array-read-subframe
-    array-read-id
-    layout-by-requires
-    read-requires-2
-    raw-of-requires
-    entry-requires
+    (λ c κs. search needs)
+    (λ c. search needs)
+    (λ c. search needs)
+    (λ c κs. search needs)
+    (λ c κs. search needs)
+    (λ c κs. search needs)
+    (λ c κs. search needs)
     returns)

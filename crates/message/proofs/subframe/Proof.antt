@@ -5,14 +5,8 @@ use borrow.Author.Needs.{needs}
 use Rattle.message.proofs.subframe.Statement.{statement}
 use Rattle.message.proofs.subframe.Tie as tie
 
-id-of-requires : tie.Need-id-of-requires
-id-of-requires c κs = search needs
-
 add-result : tie.Need-add-result
 add-result c = omega (arith, c .id-of .ensures, id-small (c .before .args .«record»))
 
-returns : tie.Need-returns
-returns c = search needs
-
 pub subframe-spec : {M : Type 1} → statement M
-subframe-spec = tie.close (tie.spec id-of-requires add-result returns)
+subframe-spec = tie.close (tie.spec (λ c κs. search needs) add-result (λ c. search needs))

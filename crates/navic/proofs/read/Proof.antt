@@ -9,41 +9,17 @@ use borrow.Author.Needs.{needs}
 use Rattle.navic.proofs.read.Statement.{statement}
 use Rattle.navic.proofs.read.Tie as tie
 
-refuse-requires : tie.Need-refuse-requires
-refuse-requires c κs = search needs
-
 returns : tie.Need-returns
 returns c =
     let a = c .before .before .before .before .args in
     refused-is (a .symbols .now) (a .room .now) reading.Length (c .refuse .result) refl (c .refuse .ensures)
     (length-is (a .symbols .now) (a .room .now) (c .before .if1 .taken))
 
-refuse-requires-2 : tie.Need-refuse-requires-2
-refuse-requires-2 c κs = search needs
-
 returns-2 : tie.Need-returns-2
 returns-2 c =
     let a = c .before .before .before .before .before .args in
     refused-is (a .symbols .now) (a .room .now) reading.Room (c .refuse2 .result) refl (c .refuse2 .ensures)
     (room-is (a .symbols .now) (a .room .now) (c .before .before .if1 .left) (c .before .if2 .taken))
-
-all-600-requires : tie.Need-all-600-requires
-all-600-requires c κs = search needs
-
-receive-requires : tie.Need-receive-requires
-receive-requires c κs = search needs
-
-by-link-requires : tie.Need-by-link-requires
-by-link-requires c κs = search needs
-
-is-done-requires : tie.Need-is-done-requires
-is-done-requires c κs = search needs
-
-lend-requires : tie.Need-lend-requires
-lend-requires c κs = search needs
-
-same-length : tie.Need-same-length
-same-length c = search needs
 
 returns-3 : tie.Need-returns-3
 returns-3 c =
@@ -62,14 +38,14 @@ pub read-spec : {M : Type 1} → statement M
 read-spec =
     tie.close
     (tie.spec
-    refuse-requires
+    (λ c κs. search needs)
     returns
-    refuse-requires-2
+    (λ c κs. search needs)
     returns-2
-    all-600-requires
-    receive-requires
-    by-link-requires
-    is-done-requires
-    lend-requires
-    same-length
+    (λ c κs. search needs)
+    (λ c κs. search needs)
+    (λ c κs. search needs)
+    (λ c κs. search needs)
+    (λ c κs. search needs)
+    (λ c. search needs)
     returns-3)

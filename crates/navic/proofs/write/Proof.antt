@@ -13,19 +13,10 @@ returns c =
     let a = c .before .before .args in
     little (a .«record») (a .beside) (a .room .now) (c .if1 .taken)
 
-id-refused-requires : tie.Need-id-refused-requires
-id-refused-requires c κs = search needs
-
 returns-2 : tie.Need-returns-2
 returns-2 c =
     let a = c .before .before .before .before .args in
     foreign (a .«record») (a .beside) (a .room .now) (c .before .before .if1 .left) (sym (c .before .id-refused .ensures) ∙ c .if2 .taken)
-
-towc-requires : tie.Need-towc-requires
-towc-requires c κs = search needs
-
-refused-requires : tie.Need-refused-requires
-refused-requires c κs = search needs
 
 returns-3 : tie.Need-returns-3
 returns-3 c =
@@ -33,9 +24,6 @@ returns-3 c =
     let a = own .before .before .before .before .args in
     untimely (a .«record») (a .beside) (a .room .now) (own .before .before .if1 .left) (sym (own .before .id-refused .ensures) ∙ own .if2 .left)
     (ap (λ (t : Towc). towcRefused (t .0)) (sym (c .before .before .towc .ensures)) ∙ sym (c .before .refused .ensures) ∙ c .if3 .taken)
-
-fault-requires : tie.Need-fault-requires
-fault-requires c κs = search needs
 
 returns-4 : tie.Need-returns-4
 returns-4 c =
@@ -45,18 +33,6 @@ returns-4 c =
     faulty (a .«record») (a .beside) (a .room .now) (own .before .before .if1 .left) (sym (own .before .id-refused .ensures) ∙ own .if2 .left)
     (ap (λ (t : Towc). towcRefused (t .0)) (sym (timely .before .before .towc .ensures)) ∙ sym (timely .before .refused .ensures) ∙ timely .if3 .left)
     (c .before .fault .result) (c .before .fault .ensures) (c .if4 .taken)
-
-symbols-requires : tie.Need-symbols-requires
-symbols-requires c κs = search needs
-
-slice-aggregate-copy : tie.Need-slice-aggregate-copy
-slice-aggregate-copy c = search needs
-
-copy-requires : tie.Need-copy-requires
-copy-requires c κs = search needs
-
-same-length : tie.Need-same-length
-same-length c = search needs
 
 returns-5 : tie.Need-returns-5
 returns-5 c =
@@ -74,15 +50,15 @@ write-spec =
     tie.close
     (tie.spec
     returns
-    id-refused-requires
+    (λ c κs. search needs)
     returns-2
-    towc-requires
-    refused-requires
+    (λ c κs. search needs)
+    (λ c κs. search needs)
     returns-3
-    fault-requires
+    (λ c κs. search needs)
     returns-4
-    symbols-requires
-    slice-aggregate-copy
-    copy-requires
-    same-length
+    (λ c κs. search needs)
+    (λ c. search needs)
+    (λ c κs. search needs)
+    (λ c. search needs)
     returns-5)

@@ -12,21 +12,6 @@ use Rattle.navic_c.proofs.navic_began_at.Tie as tie
 told : {t : Towc} {y : weektime.Began} {n : _} → t .0 ≡ n → y ≡ beganOf t → y ≡ beganOf (record { 0 = n })
 told e f = f ∙ (λ i. beganOf (record { 0 = e i }))
 
-new-requires : tie.Need-new-requires
-new-requires c κs = search needs
-
-began-at-requires : tie.Need-began-at-requires
-began-at-requires c κs = search needs
-
-enum-known-s : tie.Need-enum-known-s
-enum-known-s c = search needs
-
-second-requires : tie.Need-second-requires
-second-requires c κs = search needs
-
-enum-told : tie.Need-enum-told
-enum-told c = search needs
-
 returns : tie.Need-returns
 unfolding beganFrom
 returns c =
@@ -46,10 +31,10 @@ pub navic-began-at-spec : {M : Type 1} → statement M
 navic-began-at-spec =
     tie.close
     (tie.spec
-    new-requires
-    began-at-requires
-    enum-known-s
-    second-requires
-    enum-told
+    (λ c κs. search needs)
+    (λ c κs. search needs)
+    (λ c. search needs)
+    (λ c κs. search needs)
+    (λ c. search needs)
     returns
     returns-2)

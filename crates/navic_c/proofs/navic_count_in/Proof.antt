@@ -12,21 +12,6 @@ use Rattle.navic_c.proofs.navic_count_in.Tie as tie
 told : {t : SecondOfWeek} {y : weektime.Counted} {n : _} → t .0 ≡ n → y ≡ countOf t → y ≡ countOf (record { 0 = n })
 told e f = f ∙ (λ i. countOf (record { 0 = e i }))
 
-new-requires : tie.Need-new-requires
-new-requires c κs = search needs
-
-count-in-requires : tie.Need-count-in-requires
-count-in-requires c κs = search needs
-
-enum-known-t : tie.Need-enum-known-t
-enum-known-t c = search needs
-
-count-requires : tie.Need-count-requires
-count-requires c κs = search needs
-
-enum-told : tie.Need-enum-told
-enum-told c = search needs
-
 returns : tie.Need-returns
 unfolding countedFrom
 returns c =
@@ -46,10 +31,10 @@ pub navic-count-in-spec : {M : Type 1} → statement M
 navic-count-in-spec =
     tie.close
     (tie.spec
-    new-requires
-    count-in-requires
-    enum-known-t
-    count-requires
-    enum-told
+    (λ c κs. search needs)
+    (λ c κs. search needs)
+    (λ c. search needs)
+    (λ c κs. search needs)
+    (λ c. search needs)
     returns
     returns-2)

@@ -7,14 +7,8 @@ use Rattle.navic_c.proofs.Judged.{fitting-long}
 use Rattle.navic_c.proofs.navic_is_idle_pattern.Statement.{statement}
 use Rattle.navic_c.proofs.navic_is_idle_pattern.Tie as tie
 
-fits-requires : tie.Need-fits-requires
-fits-requires c κs = search needs
-
 record-of-requires : tie.Need-record-of-requires
 record-of-requires c κs = fitting-long (c .before .before .before .args .numbers .now) (sym (c .before .fits2 .ensures) ∙ c .if1 .taken)
-
-is-idle-pattern-requires : tie.Need-is-idle-pattern-requires
-is-idle-pattern-requires c κs = search needs
 
 returns : tie.Need-returns
 unfolding idleOfNumbers
@@ -29,4 +23,4 @@ returns-2 c = rw (sym (c .before .fits2 .ensures) ∙ c .if1 .left)
 pub navic-is-idle-pattern-spec : {M : Type 1} → statement M
 navic-is-idle-pattern-spec =
     tie.close
-    (tie.spec fits-requires record-of-requires is-idle-pattern-requires returns returns-2)
+    (tie.spec (λ c κs. search needs) record-of-requires (λ c κs. search needs) returns returns-2)

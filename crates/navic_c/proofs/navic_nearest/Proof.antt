@@ -15,15 +15,6 @@ returns-2 c =
     let a = c .before .before .before .before .args in
     word-room (a .coded .now) (a .word .now) (c .before .if1 .left) (c .if2 .taken)
 
-clean-requires : tie.Need-clean-requires
-clean-requires c κs = search needs
-
-decode-requires : tie.Need-decode-requires
-decode-requires c κs = search needs
-
-same-length : tie.Need-same-length
-same-length c = search needs
-
 returns-3 : tie.Need-returns-3
 returns-3 c =
     let got = c .before .before in
@@ -42,4 +33,4 @@ returns-4 c =
 pub navic-nearest-spec : {M : Type 1} → statement M
 navic-nearest-spec =
     tie.close
-    (tie.spec returns returns-2 clean-requires decode-requires same-length returns-3 returns-4)
+    (tie.spec returns returns-2 (λ c κs. search needs) (λ c κs. search needs) (λ c. search needs) returns-3 returns-4)

@@ -7,12 +7,6 @@ use Rattle.navic_c.proofs.Judged.{fitting-long}
 use Rattle.navic_c.proofs.navic_pair.Statement.{statement}
 use Rattle.navic_c.proofs.navic_pair.Tie as tie
 
-fits-requires : tie.Need-fits-requires
-fits-requires c κs = search needs
-
-fits-requires-2 : tie.Need-fits-requires-2
-fits-requires-2 c κs = search needs
-
 record-of-requires : tie.Need-record-of-requires
 record-of-requires c κs =
     let first = c .before .before in
@@ -23,9 +17,6 @@ record-of-requires-2 c κs =
     let second = c .before in
     fitting-long (second .before .before .before .before .before .before .args .second .now) (sym (second .before .fits3 .ensures) ∙ second .if2 .taken)
 
-pair-requires : tie.Need-pair-requires
-pair-requires c κs = search needs
-
 returns : tie.Need-returns
 unfolding pairedOf
 returns c =
@@ -34,18 +25,12 @@ returns c =
     rw (sym (first .before .fits2 .ensures) ∙ first .if1 .taken, sym (second .before .fits3 .ensures) ∙ second .if2 .taken)
     (c .pair .ensures ∙ ap₂ pairOf (c .before .before .record-of .ensures) (c .before .record-of2 .ensures))
 
-refused-requires : tie.Need-refused-requires
-refused-requires c κs = search needs
-
 returns-2 : tie.Need-returns-2
 unfolding pairedOf
 returns-2 c =
     let second = c .before in
     let first = second .before .before in
     rw (sym (first .before .fits2 .ensures) ∙ first .if1 .taken, sym (second .before .fits3 .ensures) ∙ second .if2 .left) (c .refused .ensures)
-
-refused-requires-2 : tie.Need-refused-requires-2
-refused-requires-2 c κs = search needs
 
 returns-3 : tie.Need-returns-3
 unfolding pairedOf
@@ -55,13 +40,13 @@ pub navic-pair-spec : {M : Type 1} → statement M
 navic-pair-spec =
     tie.close
     (tie.spec
-    fits-requires
-    fits-requires-2
+    (λ c κs. search needs)
+    (λ c κs. search needs)
     record-of-requires
     record-of-requires-2
-    pair-requires
+    (λ c κs. search needs)
     returns
-    refused-requires
+    (λ c κs. search needs)
     returns-2
-    refused-requires-2
+    (λ c κs. search needs)
     returns-3)

@@ -10,9 +10,6 @@ use Rattle.navic_c.proofs.Answered.{few-read, few-word, few-numbers, en
 use Rattle.navic_c.proofs.navic_read.Statement.{statement}
 use Rattle.navic_c.proofs.navic_read.Tie as tie
 
-no-room-requires : tie.Need-no-room-requires
-no-room-requires c κs = search needs
-
 returns : tie.Need-returns
 returns c =
     let a = c .before .before .before .before .before .args in
@@ -21,21 +18,6 @@ returns c =
       c .no-room .ensures ∙ sym (ap lineOfNumbers (few-read s (a .word .now) (a .numbers .now) few)),
       (few-word s (a .word .now) (a .numbers .now) few, few-numbers s (a .word .now) (a .numbers .now) few),
     )
-
-read-requires : tie.Need-read-requires
-read-requires c κs = search needs
-
-lend-requires : tie.Need-lend-requires
-lend-requires c κs = search needs
-
-line-requires : tie.Need-line-requires
-line-requires c κs = search needs
-
-same-length : tie.Need-same-length
-same-length c = search needs
-
-same-length-2 : tie.Need-same-length-2
-same-length-2 c = search needs
 
 returns-2 : tie.Need-returns-2
 returns-2 c =
@@ -59,11 +41,11 @@ pub navic-read-spec : {M : Type 1} → statement M
 navic-read-spec =
     tie.close
     (tie.spec
-    no-room-requires
+    (λ c κs. search needs)
     returns
-    read-requires
-    lend-requires
-    line-requires
-    same-length
-    same-length-2
+    (λ c κs. search needs)
+    (λ c κs. search needs)
+    (λ c κs. search needs)
+    (λ c. search needs)
+    (λ c. search needs)
     returns-2)

@@ -23,23 +23,11 @@ returns-2 c =
     let a = c .before .before .before .before .args in
     other-count (int64 (a .numbers .now)) (a .symbols .now) (c .before .if1 .left) (λ e. c .if2 .taken (sym (length-map (a .numbers .now) (toZ w64)) ∙ e))
 
-forty-two-requires : tie.Need-forty-two-requires
-forty-two-requires c κs = search needs
-
 judge-requires : tie.Need-judge-requires
 judge-requires c κs = c .forty-two .ensures .1
 
 symbols-requires : tie.Need-symbols-requires
 symbols-requires c κs = c .before .before .before .forty-two .ensures .1
-
-slice-aggregate-copy : tie.Need-slice-aggregate-copy
-slice-aggregate-copy c = search needs
-
-copy-requires : tie.Need-copy-requires
-copy-requires c κs = search needs
-
-same-length : tie.Need-same-length
-same-length c = search needs
 
 returns-3 : tie.Need-returns-3
 returns-3 c =
@@ -75,11 +63,11 @@ navic-write-spec =
     (tie.spec
     returns
     returns-2
-    forty-two-requires
+    (λ c κs. search needs)
     judge-requires
     symbols-requires
-    slice-aggregate-copy
-    copy-requires
-    same-length
+    (λ c. search needs)
+    (λ c κs. search needs)
+    (λ c. search needs)
     returns-3
     returns-4)

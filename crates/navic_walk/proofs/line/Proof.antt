@@ -7,17 +7,8 @@ use Rattle.navic.specs.Navic.{lineOf}
 use Rattle.navic_walk.proofs.line.Statement.{statement}
 use Rattle.navic_walk.proofs.line.Tie as tie
 
-slice-aggregate-read : tie.Need-slice-aggregate-read
-slice-aggregate-read c = search needs
-
-read-requires : tie.Need-read-requires
-read-requires c κs = search needs
-
-line-requires : tie.Need-line-requires
-line-requires c κs = search needs
-
 returns : tie.Need-returns
 returns c = c .line .ensures ∙ ap (λ (x : Readout). lineOf (x .reading)) (c .before .before .read .ensures .0)
 
 pub line-spec : {M : Type 1} → statement M
-line-spec = tie.close (tie.spec slice-aggregate-read read-requires line-requires returns)
+line-spec = tie.close (tie.spec (λ c. search needs) (λ c κs. search needs) (λ c κs. search needs) returns)

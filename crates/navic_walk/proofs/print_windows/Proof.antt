@@ -47,14 +47,8 @@ loop-holds c = omega arith
 step-from-requires : tie.Need-step-from-requires Inv-loop μ-loop
 step-from-requires c κs = tt
 
-enum-known-step : tie.Need-enum-known-step Inv-loop μ-loop
-enum-known-step c = search needs
-
 returns : tie.Need-returns Inv-loop μ-loop
 returns c = closing _ _ _ (sym (c .before .before .before .step-from .ensures) ∙ c .before .step .given .1)
-
-enum-known-step-2 : tie.Need-enum-known-step-2 Inv-loop μ-loop
-enum-known-step-2 c = search needs
 
 print-window-requires : tie.Need-print-window-requires Inv-loop μ-loop
 print-window-requires c κs = tt
@@ -75,9 +69,9 @@ print-windows-spec =
     μ-loop
     loop-holds
     step-from-requires
-    enum-known-step
+    (λ c. search needs)
     returns
-    enum-known-step-2
+    (λ c. search needs)
     print-window-requires
     loop-less
     loop-again)

@@ -29,9 +29,6 @@ module _ (l : List ℕ) (from : ℕ) (f : Found) (e : f ≡ foundFrom l from) wh
       let n : f .after - f .start ≡ 600 = omega (arith, (rw (← e) at (forward l from)) h) in
       rw (← e, eq-eqb (f .number) 0 h, n) refl
 
-find-requires : tie.Need-find-requires
-find-requires c κs = search needs
-
 returns : tie.Need-returns
 returns c = closes _ _ _ (c .before .before .find .ensures) (c .if1 .taken)
 
@@ -44,9 +41,6 @@ part-line-start c = let i = inside-of _ _ (c .before .before .find .ensures) in 
 part-line-end : tie.Need-part-line-end
 part-line-end c = let i = inside-of _ _ (c .before .before .find .ensures) in omega arith
 
-line-requires : tie.Need-line-requires
-line-requires c κs = search needs
-
 returns-2 : tie.Need-returns-2
 returns-2 c =
     let found = c .before .before .before .before .find in
@@ -56,4 +50,4 @@ returns-2 c =
 pub step-from-spec : {M : Type 1} → statement M
 step-from-spec =
     tie.close
-    (tie.spec find-requires returns sub-line part-line-start part-line-end line-requires returns-2)
+    (tie.spec (λ c κs. search needs) returns sub-line part-line-start part-line-end (λ c κs. search needs) returns-2)

@@ -13,9 +13,6 @@ Inv-loop kept₀ count₀ turns₀ kept count turns = length kept ≡ length kep
 abbrev μ-loop : tie.MeasureT-loop
 μ-loop kept₀ count₀ turns₀ kept count turns = turns
 
-loop-holds : tie.Need-loop-holds Inv-loop μ-loop
-loop-holds c = search needs
-
 take-piece-requires : tie.Need-take-piece-requires Inv-loop μ-loop
 take-piece-requires c κs = tt
 
@@ -25,17 +22,8 @@ sub-turns c = omega arith
 loop-less : tie.Need-loop-less Inv-loop μ-loop
 loop-less c = omega arith
 
-loop-again : tie.Need-loop-again Inv-loop μ-loop
-loop-again c = search needs
-
-same-length : tie.Need-same-length Inv-loop μ-loop
-same-length c = search needs
-
 returns : tie.Need-returns Inv-loop μ-loop
 returns c = tt
-
-same-length-2 : tie.Need-same-length-2 Inv-loop μ-loop
-same-length-2 c = search needs
 
 returns-2 : tie.Need-returns-2 Inv-loop μ-loop
 returns-2 c = tt
@@ -46,12 +34,12 @@ take-all-spec =
     (tie.spec
     Inv-loop
     μ-loop
-    loop-holds
+    (λ c. search needs)
     take-piece-requires
     sub-turns
     loop-less
-    loop-again
-    same-length
+    (λ c. search needs)
+    (λ c. search needs)
     returns
-    same-length-2
+    (λ c. search needs)
     returns-2)

@@ -17,12 +17,9 @@ returns c = let h : 65536 < c .before .before .args .count = omega arith in rw (
 slice-aggregate-print-windows : tie.Need-slice-aggregate-print-windows
 slice-aggregate-print-windows c = simp length-take (omega arith)
 
-print-windows-requires : tie.Need-print-windows-requires
-print-windows-requires c κs = search needs
-
 returns-2 : tie.Need-returns-2
 returns-2 c = c .print-windows .ensures ∙ ap closingOf (simp length-take (omega arith))
 
 pub walk-spec : {M : Type 1} → statement M
 walk-spec =
-    tie.close (tie.spec returns slice-aggregate-print-windows print-windows-requires returns-2)
+    tie.close (tie.spec returns slice-aggregate-print-windows (λ c κs. search needs) returns-2)

@@ -9,23 +9,11 @@ use Rattle.nearest.proofs.Trail.{marks-bits}
 use Rattle.nearest.proofs.find.Statement.{statement}
 use Rattle.nearest.proofs.find.Tie as tie
 
-slice-aggregate-forward : tie.Need-slice-aggregate-forward
-slice-aggregate-forward c = search needs
-
-forward-requires : tie.Need-forward-requires
-forward-requires c κs = search needs
-
-slice-aggregate-back : tie.Need-slice-aggregate-back
-slice-aggregate-back c = search needs
-
 back-requires : tie.Need-back-requires
 back-requires c κs =
     let f = c .before .before .before .forward in
     let entry = c .before .before .before .before .before .before .before in
     ((f .kept .1 .1 .1 .0 ∙ length-replicate {A = ℕ} 18688 0, entry .pre .2), marks-bits (f .ensures .1))
-
-same-length : tie.Need-same-length
-same-length c = search needs
 
 returns : tie.Need-returns
 returns c =
@@ -39,9 +27,9 @@ pub find-spec : {M : Type 1} → statement M
 find-spec =
     tie.close
     (tie.spec
-    slice-aggregate-forward
-    forward-requires
-    slice-aggregate-back
+    (λ c. search needs)
+    (λ c κs. search needs)
+    (λ c. search needs)
     back-requires
-    same-length
+    (λ c. search needs)
     returns)

@@ -7,12 +7,6 @@ use Rattle.nearest.proofs.Fly.{symbol-none, symbol-one}
 use Rattle.nearest.proofs.symbol_price.Statement.{statement}
 use Rattle.nearest.proofs.symbol_price.Tie as tie
 
-less-requires : tie.Need-less-requires
-less-requires c κs = search needs
-
-sub-result : tie.Need-sub-result
-sub-result c = search needs
-
 returns : tie.Need-returns
 returns c = (c .before .less .ensures ∙ symbol-none _ _ _ (c .if1 .taken), omega (arith, c .before .less .ensures))
 
@@ -20,4 +14,4 @@ returns-2 : tie.Need-returns-2
 returns-2 c = (rw (c .before .less .ensures) (symbol-one _ _ _ (c .if1 .left)), omega (arith, c .before .less .ensures))
 
 pub symbol-price-spec : {M : Type 1} → statement M
-symbol-price-spec = tie.close (tie.spec less-requires sub-result returns returns-2)
+symbol-price-spec = tie.close (tie.spec (λ c κs. search needs) (λ c. search needs) returns returns-2)

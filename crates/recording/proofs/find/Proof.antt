@@ -46,9 +46,6 @@ sub-if2 c = omega arith
 sync-requires : tie.Need-sync-requires Inv-loop μ-loop
 sync-requires c κs = tt
 
-enum-told : tie.Need-enum-told Inv-loop μ-loop
-enum-told c = search needs
-
 add-p : tie.Need-add-p Inv-loop μ-loop
 add-p c = omega arith
 
@@ -99,7 +96,7 @@ find-spec =
     loop-holds
     sub-if2
     sync-requires
-    enum-told
+    (λ c. search needs)
     add-p
     loop-less
     loop-again

@@ -8,9 +8,6 @@ use Rattle.weektime.proofs.Counts.{taken}
 use Rattle.weektime.proofs.began_at.Statement.{statement}
 use Rattle.weektime.proofs.began_at.Tie as tie
 
-refused-requires : tie.Need-refused-requires
-refused-requires c κs = search needs
-
 returns : tie.Need-returns
 unfolding beganOf
 returns c = rw (sym (c .before .refused .ensures) ∙ c .if1 .taken)
@@ -26,4 +23,4 @@ unfolding beganOf
 returns-2 c = rw (sym (c .before .refused .ensures) ∙ c .if1 .left)
 
 pub began-at-spec : {M : Type 1} → statement M
-began-at-spec = tie.close (tie.spec refused-requires returns sub-t4 mul-t5 returns-2)
+began-at-spec = tie.close (tie.spec (λ c κs. search needs) returns sub-t4 mul-t5 returns-2)

@@ -6,12 +6,6 @@ use Rattle.weektime.specs.Time.{countOf}
 use Rattle.weektime.proofs.count_in.Statement.{statement}
 use Rattle.weektime.proofs.count_in.Tie as tie
 
-add-t4 : tie.Need-add-t4
-add-t4 c = search needs
-
-refused-requires : tie.Need-refused-requires
-refused-requires c κs = search needs
-
 returns : tie.Need-returns
 unfolding countOf
 returns c = rw (sym (c .before .refused .ensures) ∙ c .if1 .taken)
@@ -21,4 +15,4 @@ unfolding countOf
 returns-2 c = rw (sym (c .before .refused .ensures) ∙ c .if1 .left)
 
 pub count-in-spec : {M : Type 1} → statement M
-count-in-spec = tie.close (tie.spec add-t4 refused-requires returns returns-2)
+count-in-spec = tie.close (tie.spec (λ c. search needs) (λ c κs. search needs) returns returns-2)

@@ -7,20 +7,8 @@ use borrow.Author.Needs.{needs}
 use Rattle.message.proofs.numbers.byte.Statement.{statement}
 use Rattle.message.proofs.numbers.byte.Tie as tie
 
-array-read-result : tie.Need-array-read-result
-array-read-result c = search needs
-
-cast-result : tie.Need-cast-result
-cast-result c = search needs
-
 returns : tie.Need-returns
 returns c = rw (ne-eqb (c .before .before .args .k) 27 (λ e. omega arith))
-
-array-read-result-2 : tie.Need-array-read-result-2
-array-read-result-2 c = search needs
-
-cast-result-2 : tie.Need-cast-result-2
-cast-result-2 c = search needs
 
 returns-2 : tie.Need-returns-2
 returns-2 c = rw (c .if2 .taken)
@@ -36,10 +24,10 @@ pub byte-spec : {M : Type 1} → statement M
 byte-spec =
     tie.close
     (tie.spec
-    array-read-result
-    cast-result
+    (λ c. search needs)
+    (λ c. search needs)
     returns
-    array-read-result-2
-    cast-result-2
+    (λ c. search needs)
+    (λ c. search needs)
     returns-2
     returns-3)

@@ -6,18 +6,6 @@ use borrow.Author.Needs.{needs}
 use Rattle.message.proofs.numbers.givd.Statement.{statement}
 use Rattle.message.proofs.numbers.givd.Tie as tie
 
-mul-result : tie.Need-mul-result
-mul-result c = search needs
-
-array-read-result : tie.Need-array-read-result
-array-read-result c = search needs
-
-cast-result : tie.Need-cast-result
-cast-result c = search needs
-
-returns : tie.Need-returns
-returns c = search needs
-
 returns-2 : tie.Need-returns-2
 returns-2 c =
     let l = c .before .before .args .beside .givd in
@@ -25,4 +13,4 @@ returns-2 c =
     sym (List·getD-eq-default l 0 (omega arith))
 
 pub givd-spec : {M : Type 1} → statement M
-givd-spec = tie.close (tie.spec mul-result array-read-result cast-result returns returns-2)
+givd-spec = tie.close (tie.spec (λ c. search needs) (λ c. search needs) (λ c. search needs) (λ c. search needs) returns-2)

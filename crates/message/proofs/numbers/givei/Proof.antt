@@ -6,15 +6,6 @@ use borrow.Author.Needs.{needs}
 use Rattle.message.proofs.numbers.givei.Statement.{statement}
 use Rattle.message.proofs.numbers.givei.Tie as tie
 
-array-read-result : tie.Need-array-read-result
-array-read-result c = search needs
-
-cast-result : tie.Need-cast-result
-cast-result c = search needs
-
-returns : tie.Need-returns
-returns c = search needs
-
 returns-2 : tie.Need-returns-2
 returns-2 c =
     let l = c .before .before .args .beside .givei in
@@ -22,4 +13,4 @@ returns-2 c =
     sym (List·getD-eq-default l 0 (omega arith))
 
 pub givei-spec : {M : Type 1} → statement M
-givei-spec = tie.close (tie.spec array-read-result cast-result returns returns-2)
+givei-spec = tie.close (tie.spec (λ c. search needs) (λ c. search needs) (λ c. search needs) returns-2)

@@ -31,14 +31,8 @@ loop-holds c = (filled-none 0 _ 42 _ refl, λ k h. absurd (omega arith))
 mul-field : tie.Need-mul-field Inv-loop μ-loop
 mul-field c = omega arith
 
-array-copy-out-field : tie.Need-array-copy-out-field Inv-loop μ-loop
-array-copy-out-field c = search needs
-
 mul-field-2 : tie.Need-mul-field-2 Inv-loop μ-loop
 mul-field-2 c = omega arith
-
-array-copy-out-field-2 : tie.Need-array-copy-out-field-2 Inv-loop μ-loop
-array-copy-out-field-2 c = search needs
 
 -- an element of two lists put together, by the length of the first
 fore : {A : Type 0} (d : A) (l m : List A) (n i : ℕ) → length l ≡ n → i < n → getD l i d ≡ getD (l ++ m) i d
@@ -58,9 +52,6 @@ taken c =
     let long : length (a .t1) ≡ 6 = search needs in
     ⊎-elim (λ w. w .2 ∙ fore (Plain 0) (a .t1) (a .t2) 6 i long (w .0 .taken)) (λ w. w .2 ∙ rear (Plain 0) (a .t1) (a .t2) 6 i long (w .0 .left))
     (c .if1 .came)
-
-number-requires : tie.Need-number-requires Inv-loop μ-loop
-number-requires c κs = search needs
 
 mul-numbers : tie.Need-mul-numbers Inv-loop μ-loop
 mul-numbers c = omega arith
@@ -96,10 +87,10 @@ lay-spec =
     μ-loop
     loop-holds
     mul-field
-    array-copy-out-field
+    (λ c. search needs)
     mul-field-2
-    array-copy-out-field-2
-    number-requires
+    (λ c. search needs)
+    (λ c κs. search needs)
     mul-numbers
     array-write-numbers
     add-i

@@ -8,51 +8,6 @@ use borrow.Author.Needs.{needs}
 use Rattle.message.proofs.numbers.number.Statement.{statement}
 use Rattle.message.proofs.numbers.number.Tie as tie
 
-enum-known-field : tie.Need-enum-known-field
-enum-known-field c = search needs
-
-cast-result : tie.Need-cast-result
-cast-result c = search needs
-
-enum-known-field-2 : tie.Need-enum-known-field-2
-enum-known-field-2 c = search needs
-
-pattern-requires : tie.Need-pattern-requires
-pattern-requires c κs = search needs
-
-enum-known-field-3 : tie.Need-enum-known-field-3
-enum-known-field-3 c = search needs
-
-flag-requires : tie.Need-flag-requires
-flag-requires c κs = search needs
-
-enum-known-field-4 : tie.Need-enum-known-field-4
-enum-known-field-4 c = search needs
-
-week-requires : tie.Need-week-requires
-week-requires c κs = search needs
-
-enum-known-field-5 : tie.Need-enum-known-field-5
-enum-known-field-5 c = search needs
-
-enum-known-field-6 : tie.Need-enum-known-field-6
-enum-known-field-6 c = search needs
-
-givei-requires : tie.Need-givei-requires
-givei-requires c κs = search needs
-
-enum-known-field-7 : tie.Need-enum-known-field-7
-enum-known-field-7 c = search needs
-
-givd-requires : tie.Need-givd-requires
-givd-requires c κs = search needs
-
-enum-known-field-8 : tie.Need-enum-known-field-8
-enum-known-field-8 c = search needs
-
-byte-requires : tie.Need-byte-requires
-byte-requires c κs = search needs
-
 returns : tie.Need-returns
 returns c = rw (c .before .field .given .1) (refl, search needs)
 
@@ -85,21 +40,21 @@ pub number-spec : {M : Type 1} → statement M
 number-spec =
     tie.close
     (tie.spec
-    enum-known-field
-    cast-result
-    enum-known-field-2
-    pattern-requires
-    enum-known-field-3
-    flag-requires
-    enum-known-field-4
-    week-requires
-    enum-known-field-5
-    enum-known-field-6
-    givei-requires
-    enum-known-field-7
-    givd-requires
-    enum-known-field-8
-    byte-requires
+    (λ c. search needs)
+    (λ c. search needs)
+    (λ c. search needs)
+    (λ c κs. search needs)
+    (λ c. search needs)
+    (λ c κs. search needs)
+    (λ c. search needs)
+    (λ c κs. search needs)
+    (λ c. search needs)
+    (λ c. search needs)
+    (λ c κs. search needs)
+    (λ c. search needs)
+    (λ c κs. search needs)
+    (λ c. search needs)
+    (λ c κs. search needs)
     returns
     returns-2
     returns-3

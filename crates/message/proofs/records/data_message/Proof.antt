@@ -5,19 +5,10 @@ use borrow.Author.Needs.{needs}
 use Rattle.message.proofs.records.data_message.Statement.{statement}
 use Rattle.message.proofs.records.data_message.Tie as tie
 
-data-of-requires : tie.Need-data-of-requires
-data-of-requires c κs = search needs
-
-null-of-requires : tie.Need-null-of-requires
-null-of-requires c κs = search needs
-
 returns : tie.Need-returns
 returns c =
     rw (c .before .if1 .taken)
     (λ i. record { «record» = case.Null (c .null-of .ensures i); beside = c .before .before .data-of .ensures i })
-
-unread-of-requires : tie.Need-unread-of-requires
-unread-of-requires c κs = search needs
 
 returns-2 : tie.Need-returns-2
 returns-2 c =
@@ -26,4 +17,4 @@ returns-2 c =
 
 pub data-message-spec : {M : Type 1} → statement M
 data-message-spec =
-    tie.close (tie.spec data-of-requires null-of-requires returns unread-of-requires returns-2)
+    tie.close (tie.spec (λ c κs. search needs) (λ c κs. search needs) returns (λ c κs. search needs) returns-2)

@@ -9,32 +9,17 @@ use borrow.Author.Needs.{needs}
 use Rattle.message.proofs.records.entry.Statement.{statement}
 use Rattle.message.proofs.records.entry.Tie as tie
 
-subframe1-of-requires : tie.Need-subframe1-of-requires
-subframe1-of-requires c κs = search needs
-
-alone-of-requires : tie.Need-alone-of-requires
-alone-of-requires c κs = search needs
-
 returns : tie.Need-returns
 unfolding entryBy
 returns c =
     rw (c .before .before .if1 .taken)
     (c .alone-of .ensures ∙ ap (λ (x : Subframe1). alone (case.Subframe1 x)) (c .before .subframe1-of .ensures))
 
-subframe2-of-requires : tie.Need-subframe2-of-requires
-subframe2-of-requires c κs = search needs
-
-alone-of-requires-2 : tie.Need-alone-of-requires-2
-alone-of-requires-2 c κs = search needs
-
 returns-2 : tie.Need-returns-2
 unfolding entryBy
 returns-2 c =
     rw (c .before .before .if2 .taken)
     (c .alone-of2 .ensures ∙ ap (λ (x : Subframe2). alone (case.Subframe2 x)) (c .before .subframe2-of .ensures))
-
-message-requires : tie.Need-message-requires
-message-requires c κs = search needs
 
 returns-3 : tie.Need-returns-3
 unfolding entryBy
@@ -44,11 +29,11 @@ pub entry-spec : {M : Type 1} → statement M
 entry-spec =
     tie.close
     (tie.spec
-    subframe1-of-requires
-    alone-of-requires
+    (λ c κs. search needs)
+    (λ c κs. search needs)
     returns
-    subframe2-of-requires
-    alone-of-requires-2
+    (λ c κs. search needs)
+    (λ c κs. search needs)
     returns-2
-    message-requires
+    (λ c κs. search needs)
     returns-3)

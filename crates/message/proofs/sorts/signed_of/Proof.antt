@@ -27,9 +27,6 @@ mul-signed c = omega arith
 array-read-signed : tie.Need-array-read-signed Inv-loop μ-loop
 array-read-signed c = omega arith
 
-signed-requires : tie.Need-signed-requires Inv-loop μ-loop
-signed-requires c κs = search needs
-
 mul-signed-2 : tie.Need-mul-signed-2 Inv-loop μ-loop
 mul-signed-2 c = omega arith
 
@@ -59,7 +56,7 @@ signed-of-spec =
     loop-holds
     mul-signed
     array-read-signed
-    signed-requires
+    (λ c κs. search needs)
     mul-signed-2
     array-set-from-signed
     add-i

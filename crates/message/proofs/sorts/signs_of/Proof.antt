@@ -11,21 +11,6 @@ use borrow.Author.Needs.{needs}
 use Rattle.message.proofs.sorts.signs_of.Statement.{statement}
 use Rattle.message.proofs.sorts.signs_of.Tie as tie
 
-signed-of-requires : tie.Need-signed-of-requires
-signed-of-requires c κs = search needs
-
-run-at-requires : tie.Need-run-at-requires
-run-at-requires c κs = search needs
-
-run-at-requires-2 : tie.Need-run-at-requires-2
-run-at-requires-2 c κs = search needs
-
-run-at-requires-3 : tie.Need-run-at-requires-3
-run-at-requires-3 c κs = search needs
-
-join-requires : tie.Need-join-requires
-join-requires c κs = search needs
-
 returns : tie.Need-returns
 returns c i h k =
     let third = c .before in
@@ -43,9 +28,9 @@ pub signs-of-spec : {M : Type 1} → statement M
 signs-of-spec =
     tie.close
     (tie.spec
-    signed-of-requires
-    run-at-requires
-    run-at-requires-2
-    run-at-requires-3
-    join-requires
+    (λ c κs. search needs)
+    (λ c κs. search needs)
+    (λ c κs. search needs)
+    (λ c κs. search needs)
+    (λ c κs. search needs)
     returns)

@@ -15,9 +15,6 @@ Inv-loop plain weeks₀ i₀ weeks i = Filled (record { 0 = 0 }) (λ k. record {
 abbrev μ-loop : tie.MeasureT-loop
 μ-loop plain weeks₀ i₀ weeks i = 42 - i
 
-new-requires : tie.Need-new-requires Inv-loop μ-loop
-new-requires c κs = search needs
-
 loop-holds : tie.Need-loop-holds Inv-loop μ-loop
 loop-holds c = filled-none _ _ 42 _ refl
 
@@ -26,9 +23,6 @@ mul-new c = omega arith
 
 array-read-new : tie.Need-array-read-new Inv-loop μ-loop
 array-read-new c = omega arith
-
-new-requires-2 : tie.Need-new-requires-2 Inv-loop μ-loop
-new-requires-2 c κs = search needs
 
 mul-weeks : tie.Need-mul-weeks Inv-loop μ-loop
 mul-weeks c = omega arith
@@ -54,11 +48,11 @@ weeks-of-spec =
     (tie.spec
     Inv-loop
     μ-loop
-    new-requires
+    (λ c κs. search needs)
     loop-holds
     mul-new
     array-read-new
-    new-requires-2
+    (λ c κs. search needs)
     mul-weeks
     array-set-from-weeks
     add-i

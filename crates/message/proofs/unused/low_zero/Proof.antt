@@ -6,9 +6,6 @@ use borrow.Author.Needs.{needs}
 use Rattle.message.proofs.unused.low_zero.Statement.{statement}
 use Rattle.message.proofs.unused.low_zero.Tie as tie
 
-array-read-result : tie.Need-array-read-result
-array-read-result c = search needs
-
 returns : tie.Need-returns
 returns c =
     let l = c .before .args .beside .bits in
@@ -16,4 +13,4 @@ returns c =
     rw (eq-eqb (length l) 28 long)
 
 pub low-zero-spec : {M : Type 1} → statement M
-low-zero-spec = tie.close (tie.spec array-read-result returns)
+low-zero-spec = tie.close (tie.spec (λ c. search needs) returns)

@@ -6,12 +6,6 @@ use borrow.Author.Needs.{needs}
 use Rattle.message.proofs.unused.no_bits.Statement.{statement}
 use Rattle.message.proofs.unused.no_bits.Tie as tie
 
-slice-aggregate-zero-bytes : tie.Need-slice-aggregate-zero-bytes
-slice-aggregate-zero-bytes c = search needs
-
-zero-bytes-requires : tie.Need-zero-bytes-requires
-zero-bytes-requires c κs = search needs
-
 returns : tie.Need-returns
 returns c =
     let l = c .before .before .before .args .beside .bits in
@@ -19,4 +13,4 @@ returns c =
     rw (eq-eqb (length l) 28 long) (c .zero-bytes .ensures)
 
 pub no-bits-spec : {M : Type 1} → statement M
-no-bits-spec = tie.close (tie.spec slice-aggregate-zero-bytes zero-bytes-requires returns)
+no-bits-spec = tie.close (tie.spec (λ c. search needs) (λ c κs. search needs) returns)

@@ -7,21 +7,6 @@ use borrow.Author.Needs.{needs}
 use Rattle.message.proofs.unused.no_pairs.Statement.{statement}
 use Rattle.message.proofs.unused.no_pairs.Tie as tie
 
-slice-aggregate-zero-bytes : tie.Need-slice-aggregate-zero-bytes
-slice-aggregate-zero-bytes c = search needs
-
-zero-bytes-requires : tie.Need-zero-bytes-requires
-zero-bytes-requires c κs = search needs
-
-slice-aggregate-zero-words : tie.Need-slice-aggregate-zero-words
-slice-aggregate-zero-words c = search needs
-
-zero-words-requires : tie.Need-zero-words-requires
-zero-words-requires c κs = search needs
-
-and-requires : tie.Need-and-requires
-and-requires c κs = search needs
-
 returns : tie.Need-returns
 returns c =
     let words = c .before in
@@ -36,9 +21,9 @@ pub no-pairs-spec : {M : Type 1} → statement M
 no-pairs-spec =
     tie.close
     (tie.spec
-    slice-aggregate-zero-bytes
-    zero-bytes-requires
-    slice-aggregate-zero-words
-    zero-words-requires
-    and-requires
+    (λ c. search needs)
+    (λ c κs. search needs)
+    (λ c. search needs)
+    (λ c κs. search needs)
+    (λ c κs. search needs)
     returns)

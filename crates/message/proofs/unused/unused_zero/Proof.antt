@@ -12,48 +12,6 @@ both-true : (t : Bool) → both t true ≡ t
 both-true true = refl
 both-true false = refl
 
-no-bits-requires : tie.Need-no-bits-requires
-no-bits-requires c κs = search needs
-
-no-pairs-requires : tie.Need-no-pairs-requires
-no-pairs-requires c κs = search needs
-
-and-requires : tie.Need-and-requires
-and-requires c κs = search needs
-
-enum-told : tie.Need-enum-told
-enum-told c = search needs
-
-enum-told-2 : tie.Need-enum-told-2
-enum-told-2 c = search needs
-
-enum-told-3 : tie.Need-enum-told-3
-enum-told-3 c = search needs
-
-no-bits-requires-2 : tie.Need-no-bits-requires-2
-no-bits-requires-2 c κs = search needs
-
-enum-told-4 : tie.Need-enum-told-4
-enum-told-4 c = search needs
-
-enum-told-5 : tie.Need-enum-told-5
-enum-told-5 c = search needs
-
-enum-told-6 : tie.Need-enum-told-6
-enum-told-6 c = search needs
-
-enum-told-7 : tie.Need-enum-told-7
-enum-told-7 c = search needs
-
-low-zero-requires : tie.Need-low-zero-requires
-low-zero-requires c κs = search needs
-
-no-pairs-requires-2 : tie.Need-no-pairs-requires-2
-no-pairs-requires-2 c κs = search needs
-
-and-requires-2 : tie.Need-and-requires-2
-and-requires-2 c κs = search needs
-
 returns : tie.Need-returns
 returns c =
     let a = c .before .before in
@@ -97,20 +55,20 @@ pub unused-zero-spec : {M : Type 1} → statement M
 unused-zero-spec =
     tie.close
     (tie.spec
-    no-bits-requires
-    no-pairs-requires
-    and-requires
-    enum-told
-    enum-told-2
-    enum-told-3
-    no-bits-requires-2
-    enum-told-4
-    enum-told-5
-    enum-told-6
-    enum-told-7
-    low-zero-requires
-    no-pairs-requires-2
-    and-requires-2
+    (λ c κs. search needs)
+    (λ c κs. search needs)
+    (λ c κs. search needs)
+    (λ c. search needs)
+    (λ c. search needs)
+    (λ c. search needs)
+    (λ c κs. search needs)
+    (λ c. search needs)
+    (λ c. search needs)
+    (λ c. search needs)
+    (λ c. search needs)
+    (λ c κs. search needs)
+    (λ c κs. search needs)
+    (λ c κs. search needs)
     returns
     returns-2
     returns-3

@@ -6,17 +6,8 @@ use lib.Seq.{set-out}
 use Rattle.navic.proofs.input.keep.Statement.{statement}
 use Rattle.navic.proofs.input.keep.Tie as tie
 
-slice-write-kept : tie.Need-slice-write-kept
-slice-write-kept c = search needs
-
-same-length : tie.Need-same-length
-same-length c = search needs
-
-returns : tie.Need-returns
-returns c = search needs
-
 returns-2 : tie.Need-returns-2
 returns-2 c = sym (set-out _ _ _ (c .if1 .left))
 
 pub keep-spec : {M : Type 1} → statement M
-keep-spec = tie.close (tie.spec slice-write-kept same-length returns returns-2)
+keep-spec = tie.close (tie.spec (λ c. search needs) (λ c. search needs) (λ c. search needs) returns-2)

@@ -9,21 +9,9 @@ use Rattle.navic.specs.Navic.{lineOf}
 use Rattle.navic.proofs.input.line.Statement.{statement}
 use Rattle.navic.proofs.input.line.Tie as tie
 
-line-requires : tie.Need-line-requires
-line-requires c κs = search needs
-
 returns : tie.Need-returns
 unfolding lineAfter
 returns c = rw (ne-eqb _ 600 (c .before .if1 .taken)) (c .line .ensures)
-
-slice-aggregate-read : tie.Need-slice-aggregate-read
-slice-aggregate-read c = search needs
-
-read-requires : tie.Need-read-requires
-read-requires c κs = search needs
-
-line-requires-2 : tie.Need-line-requires-2
-line-requires-2 c κs = search needs
 
 returns-2 : tie.Need-returns-2
 unfolding lineAfter
@@ -34,4 +22,4 @@ returns-2 c =
 pub line-spec : {M : Type 1} → statement M
 line-spec =
     tie.close
-    (tie.spec line-requires returns slice-aggregate-read read-requires line-requires-2 returns-2)
+    (tie.spec (λ c κs. search needs) returns (λ c. search needs) (λ c κs. search needs) (λ c κs. search needs) returns-2)

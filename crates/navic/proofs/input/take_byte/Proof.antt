@@ -9,22 +9,10 @@ use Rattle.navic.proofs.input.take_byte.Tie as tie
 returns : tie.Need-returns
 returns c = gathered-feed _ _ _ (omega arith) (c .if1 .taken)
 
-symbol-requires : tie.Need-symbol-requires
-symbol-requires c κs = search needs
-
-keep-requires : tie.Need-keep-requires
-keep-requires c κs = search needs
-
-one-more-requires : tie.Need-one-more-requires
-one-more-requires c κs = search needs
-
-same-length : tie.Need-same-length
-same-length c = search needs
-
 returns-2 : tie.Need-returns-2
 returns-2 c = rw (c .one-more .ensures, c .before .before .before .keep .ensures, c .before .before .before .before .symbol .ensures) (gathered-symbol _ _ _ (c .before .before .before .before .before .before .if1 .left))
 
 pub take-byte-spec : {M : Type 1} → statement M
 take-byte-spec =
     tie.close
-    (tie.spec returns symbol-requires keep-requires one-more-requires same-length returns-2)
+    (tie.spec returns (λ c κs. search needs) (λ c κs. search needs) (λ c κs. search needs) (λ c. search needs) returns-2)

@@ -8,21 +8,6 @@ use borrow.Author.Needs.{needs}
 use Rattle.navic.proofs.lines.done_line.Statement.{statement}
 use Rattle.navic.proofs.lines.done_line.Tie as tie
 
-towc-requires : tie.Need-towc-requires
-towc-requires c κs = search needs
-
-subframe-requires : tie.Need-subframe-requires
-subframe-requires c κs = search needs
-
-count-requires : tie.Need-count-requires
-count-requires c κs = search needs
-
-message-id-requires : tie.Need-message-id-requires
-message-id-requires c κs = search needs
-
-line-from-requires : tie.Need-line-from-requires
-line-from-requires c κs = search needs
-
 returns : tie.Need-returns
 returns c =
     let told = c .before .before .before in
@@ -34,9 +19,9 @@ pub done-line-spec : {M : Type 1} → statement M
 done-line-spec =
     tie.close
     (tie.spec
-    towc-requires
-    subframe-requires
-    count-requires
-    message-id-requires
-    line-from-requires
+    (λ c κs. search needs)
+    (λ c κs. search needs)
+    (λ c κs. search needs)
+    (λ c κs. search needs)
+    (λ c κs. search needs)
     returns)

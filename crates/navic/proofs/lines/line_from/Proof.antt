@@ -4,12 +4,6 @@ use borrow.Author.Needs.{needs}
 use Rattle.navic.proofs.lines.line_from.Statement.{statement}
 use Rattle.navic.proofs.lines.line_from.Tie as tie
 
-wide32-requires : tie.Need-wide32-requires
-wide32-requires c κs = search needs
-
-one-if-requires : tie.Need-one-if-requires
-one-if-requires c κs = search needs
-
 returns : tie.Need-returns
 returns c =
     let a = c .before .before .args in
@@ -23,4 +17,4 @@ returns c =
     }
 
 pub line-from-spec : {M : Type 1} → statement M
-line-from-spec = tie.close (tie.spec wide32-requires one-if-requires returns)
+line-from-spec = tie.close (tie.spec (λ c κs. search needs) (λ c κs. search needs) returns)

@@ -11,15 +11,6 @@ use borrow.Author.Needs.{needs}
 use Rattle.navic.proofs.reader.by_check.Statement.{statement}
 use Rattle.navic.proofs.reader.by_check.Tie as tie
 
-body-of-requires : tie.Need-body-of-requires
-body-of-requires c κs = search needs
-
-parse-requires : tie.Need-parse-requires
-parse-requires c κs = search needs
-
-by-time-requires : tie.Need-by-time-requires
-by-time-requires c κs = search needs
-
 returns : tie.Need-returns
 returns c =
     let told = c .before .before .before .before in
@@ -28,12 +19,6 @@ returns c =
     ∙ ap (λ (e : Entry). readOf (byTime family e (a .q .corrected) (a .q .«turned_over»))) (c .before .parse .ensures ∙ ap fromBody (c .before .before .before .body-of .ensures))
     ∙ sym (ap (λ (t : Bool). readOf (byCheck family t (a .word .now) (a .q .corrected) (a .q .«turned_over»))) (told .if1 .taken))
 
-idle-requires : tie.Need-idle-requires
-idle-requires c κs = search needs
-
-refuse-requires : tie.Need-refuse-requires
-refuse-requires c κs = search needs
-
 returns-2 : tie.Need-returns-2
 returns-2 c =
     let told = c .before .before .before in
@@ -41,9 +26,6 @@ returns-2 c =
     c .refuse .ensures
     ∙ idle-word (a .word .now) (a .q) (sym (c .before .before .idle .ensures) ∙ c .before .if2 .taken)
     ∙ sym (ap (λ (t : Bool). readOf (byCheck family t (a .word .now) (a .q .corrected) (a .q .«turned_over»))) (told .if1 .left))
-
-refuse-requires-2 : tie.Need-refuse-requires-2
-refuse-requires-2 c κs = search needs
 
 returns-3 : tie.Need-returns-3
 returns-3 c =
@@ -57,12 +39,12 @@ pub by-check-spec : {M : Type 1} → statement M
 by-check-spec =
     tie.close
     (tie.spec
-    body-of-requires
-    parse-requires
-    by-time-requires
+    (λ c κs. search needs)
+    (λ c κs. search needs)
+    (λ c κs. search needs)
     returns
-    idle-requires
-    refuse-requires
+    (λ c κs. search needs)
+    (λ c κs. search needs)
     returns-2
-    refuse-requires-2
+    (λ c κs. search needs)
     returns-3)

@@ -8,30 +8,6 @@ use borrow.Author.Needs.{needs}
 use Rattle.navic.proofs.reader.by_link.Statement.{statement}
 use Rattle.navic.proofs.reader.by_link.Tie as tie
 
-enum-told : tie.Need-enum-told
-enum-told c = search needs
-
-refuse-requires : tie.Need-refuse-requires
-refuse-requires c κs = search needs
-
-enum-told-2 : tie.Need-enum-told-2
-enum-told-2 c = search needs
-
-refuse-requires-2 : tie.Need-refuse-requires-2
-refuse-requires-2 c κs = search needs
-
-enum-told-3 : tie.Need-enum-told-3
-enum-told-3 c = search needs
-
-refuse-requires-3 : tie.Need-refuse-requires-3
-refuse-requires-3 c κs = search needs
-
-enum-known-answer : tie.Need-enum-known-answer
-enum-known-answer c = search needs
-
-by-check-requires : tie.Need-by-check-requires
-by-check-requires c κs = search needs
-
 returns : tie.Need-returns
 returns c = c .refuse .ensures ∙ sym (ap (λ (x : Answer). readOf (byLink family x (c .before .before .before .args .word .now))) (c .before .enum-told .given .1))
 
@@ -48,14 +24,14 @@ pub by-link-spec : {M : Type 1} → statement M
 by-link-spec =
     tie.close
     (tie.spec
-    enum-told
-    refuse-requires
-    enum-told-2
-    refuse-requires-2
-    enum-told-3
-    refuse-requires-3
-    enum-known-answer
-    by-check-requires
+    (λ c. search needs)
+    (λ c κs. search needs)
+    (λ c. search needs)
+    (λ c κs. search needs)
+    (λ c. search needs)
+    (λ c κs. search needs)
+    (λ c. search needs)
+    (λ c κs. search needs)
     returns
     returns-2
     returns-3

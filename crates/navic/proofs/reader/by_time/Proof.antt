@@ -8,15 +8,6 @@ use borrow.Author.Needs.{needs}
 use Rattle.navic.proofs.reader.by_time.Statement.{statement}
 use Rattle.navic.proofs.reader.by_time.Tie as tie
 
-towc-requires : tie.Need-towc-requires
-towc-requires c κs = search needs
-
-refused-requires : tie.Need-refused-requires
-refused-requires c κs = search needs
-
-refuse-requires : tie.Need-refuse-requires
-refuse-requires c κs = search needs
-
 returns : tie.Need-returns
 returns c =
     let asked = c .before .before in
@@ -32,4 +23,4 @@ returns-2 c =
 
 pub by-time-spec : {M : Type 1} → statement M
 by-time-spec =
-    tie.close (tie.spec towc-requires refused-requires refuse-requires returns returns-2)
+    tie.close (tie.spec (λ c κs. search needs) (λ c κs. search needs) (λ c κs. search needs) returns returns-2)

@@ -10,15 +10,6 @@ use borrow.Author.Needs.{needs}
 use Rattle.navic.proofs.writer.symbols.Statement.{statement}
 use Rattle.navic.proofs.writer.symbols.Tie as tie
 
-body-requires : tie.Need-body-requires
-body-requires c κs = search needs
-
-with-check-requires : tie.Need-with-check-requires
-with-check-requires c κs = search needs
-
-send-requires : tie.Need-send-requires
-send-requires c κs = search needs
-
 returns : tie.Need-returns
 unfolding symbolsOf
 returns c =
@@ -27,4 +18,4 @@ returns c =
     ∙ ap (λ (b : List ℕ). sentOf (withCheck b)) (c .before .before .before .before .body .ensures)
 
 pub symbols-spec : {M : Type 1} → statement M
-symbols-spec = tie.close (tie.spec body-requires with-check-requires send-requires returns)
+symbols-spec = tie.close (tie.spec (λ c κs. search needs) (λ c κs. search needs) (λ c κs. search needs) returns)

@@ -12,12 +12,6 @@ use Rattle.navic_c.proofs.Words.{packed-words}
 use Rattle.navic_c.proofs.given.body.Statement.{statement}
 use Rattle.navic_c.proofs.given.body.Tie as tie
 
-layout-requires : tie.Need-layout-requires
-layout-requires c κs = search needs
-
-write-requires : tie.Need-write-requires
-write-requires c κs = search needs
-
 returns : tie.Need-returns
 unfolding bodyFrom
 returns c =
@@ -27,4 +21,4 @@ returns c =
     ∙ packed-words (layoutIn (int64 all)) all (c .before .before .pre)
 
 pub body-spec : {M : Type 1} → statement M
-body-spec = tie.close (tie.spec layout-requires write-requires returns)
+body-spec = tie.close (tie.spec (λ c κs. search needs) (λ c κs. search needs) returns)

@@ -8,12 +8,6 @@ use Rattle.navic_c.proofs.Judged.{fields-told, rest-told, field-small, 
 use Rattle.navic_c.proofs.given.fault.Statement.{statement}
 use Rattle.navic_c.proofs.given.fault.Tie as tie
 
-layout-requires : tie.Need-layout-requires
-layout-requires c κs = search needs
-
-fault-requires : tie.Need-fault-requires
-fault-requires c κs = search needs
-
 cast-result : tie.Need-cast-result
 cast-result c =
     let f = c .before in
@@ -25,15 +19,6 @@ returns c =
     let f = c .before in
     let s = f .before .before in
     field-fault (int64 (s .args .t1)) (fields-told (s .args .t1) (f .before .layout .ensures) (s .pre) (f .fault .ensures)) (c .if1 .taken)
-
-slice-aggregate-rest-zero : tie.Need-slice-aggregate-rest-zero
-slice-aggregate-rest-zero c = search needs
-
-count-requires : tie.Need-count-requires
-count-requires c κs = search needs
-
-rest-zero-requires : tie.Need-rest-zero-requires
-rest-zero-requires c κs = search needs
 
 returns-2 : tie.Need-returns-2
 returns-2 c =
@@ -59,12 +44,12 @@ pub fault-spec : {M : Type 1} → statement M
 fault-spec =
     tie.close
     (tie.spec
-    layout-requires
-    fault-requires
+    (λ c κs. search needs)
+    (λ c κs. search needs)
     cast-result
     returns
-    slice-aggregate-rest-zero
-    count-requires
-    rest-zero-requires
+    (λ c. search needs)
+    (λ c κs. search needs)
+    (λ c κs. search needs)
     returns-2
     returns-3)

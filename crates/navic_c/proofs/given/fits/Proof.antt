@@ -8,9 +8,6 @@ use Rattle.navic_c.proofs.Judged.{fitting-as, not-fitting}
 use Rattle.navic_c.proofs.given.fits.Statement.{statement}
 use Rattle.navic_c.proofs.given.fits.Tie as tie
 
-forty-two-requires : tie.Need-forty-two-requires
-forty-two-requires c κs = search needs
-
 field-fault-requires : tie.Need-field-fault-requires
 field-fault-requires c κs = c .forty-two .ensures .1
 
@@ -24,4 +21,4 @@ returns-2 : tie.Need-returns-2
 returns-2 c = not-fitting (c .before .before .args .numbers .now) (c .if1 .left)
 
 pub fits-spec : {M : Type 1} → statement M
-fits-spec = tie.close (tie.spec forty-two-requires field-fault-requires returns returns-2)
+fits-spec = tie.close (tie.spec (λ c κs. search needs) field-fault-requires returns returns-2)

@@ -9,12 +9,6 @@ use Rattle.navic_c.specs.Calls.{Words}
 use Rattle.navic_c.proofs.given.forty_two.Statement.{statement}
 use Rattle.navic_c.proofs.given.forty_two.Tie as tie
 
-slice-aggregate-copy : tie.Need-slice-aggregate-copy
-slice-aggregate-copy c = search needs
-
-copy-requires : tie.Need-copy-requires
-copy-requires c κs = search needs
-
 returns : tie.Need-returns
 returns c =
     let start = c .before .before .before .before in
@@ -23,4 +17,4 @@ returns c =
     (same, subst (λ (l : List ℕ). Words l) (sym same) (record { long = start .pre; few = c .before .copy .ensures .1 }))
 
 pub forty-two-spec : {M : Type 1} → statement M
-forty-two-spec = tie.close (tie.spec slice-aggregate-copy copy-requires returns)
+forty-two-spec = tie.close (tie.spec (λ c. search needs) (λ c κs. search needs) returns)

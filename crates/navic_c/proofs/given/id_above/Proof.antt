@@ -11,18 +11,6 @@ use Rattle.navic_c.proofs.Words.{unsigned-at}
 use Rattle.navic_c.proofs.given.id_above.Statement.{statement}
 use Rattle.navic_c.proofs.given.id_above.Tie as tie
 
-array-read-natural : tie.Need-array-read-natural
-array-read-natural c = search needs
-
-natural-requires : tie.Need-natural-requires
-natural-requires c κs = search needs
-
-array-read-natural-2 : tie.Need-array-read-natural-2
-array-read-natural-2 c = search needs
-
-natural-requires-2 : tie.Need-natural-requires-2
-natural-requires-2 c κs = search needs
-
 returns : tie.Need-returns
 unfolding idAbove
 returns c =
@@ -44,9 +32,9 @@ pub id-above-spec : {M : Type 1} → statement M
 id-above-spec =
     tie.close
     (tie.spec
-    array-read-natural
-    natural-requires
-    array-read-natural-2
-    natural-requires-2
+    (λ c. search needs)
+    (λ c κs. search needs)
+    (λ c. search needs)
+    (λ c κs. search needs)
     returns
     returns-2)

@@ -5,23 +5,14 @@ use Rattle.navic_c.proofs.Judged.{refuses-9, refuses-7, refuses-8, refu
 use Rattle.navic_c.proofs.given.judge.Statement.{statement}
 use Rattle.navic_c.proofs.given.judge.Tie as tie
 
-id-above-requires : tie.Need-id-above-requires
-id-above-requires c κs = search needs
-
 returns : tie.Need-returns
 returns c = let s = c .before .before in refuses-9 (s .args .all) (s .pre) (sym (c .before .id-above .ensures) ∙ c .if1 .taken)
-
-untimely-requires : tie.Need-untimely-requires
-untimely-requires c κs = search needs
 
 returns-2 : tie.Need-returns-2
 returns-2 c =
     let i = c .before .before in
     let s = i .before .before in
     refuses-7 (s .args .all) (s .pre) (sym (i .before .id-above .ensures) ∙ i .if1 .left) (sym (c .before .untimely .ensures) ∙ c .if2 .taken)
-
-fault-requires : tie.Need-fault-requires
-fault-requires c κs = search needs
 
 returns-3 : tie.Need-returns-3
 returns-3 c =
@@ -42,4 +33,4 @@ returns-4 c =
 pub judge-spec : {M : Type 1} → statement M
 judge-spec =
     tie.close
-    (tie.spec id-above-requires returns untimely-requires returns-2 fault-requires returns-3 returns-4)
+    (tie.spec (λ c κs. search needs) returns (λ c κs. search needs) returns-2 (λ c κs. search needs) returns-3 returns-4)

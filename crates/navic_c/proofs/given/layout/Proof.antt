@@ -7,21 +7,6 @@ use Rattle.navic_c.proofs.Words.{unsigned-at}
 use Rattle.navic_c.proofs.given.layout.Statement.{statement}
 use Rattle.navic_c.proofs.given.layout.Tie as tie
 
-array-read-natural : tie.Need-array-read-natural
-array-read-natural c = search needs
-
-natural-requires : tie.Need-natural-requires
-natural-requires c κs = search needs
-
-array-read-natural-2 : tie.Need-array-read-natural-2
-array-read-natural-2 c = search needs
-
-natural-requires-2 : tie.Need-natural-requires-2
-natural-requires-2 c κs = search needs
-
-layout-by-requires : tie.Need-layout-by-requires
-layout-by-requires c κs = search needs
-
 returns : tie.Need-returns
 unfolding layoutIn
 returns c =
@@ -33,9 +18,9 @@ pub layout-spec : {M : Type 1} → statement M
 layout-spec =
     tie.close
     (tie.spec
-    array-read-natural
-    natural-requires
-    array-read-natural-2
-    natural-requires-2
-    layout-by-requires
+    (λ c. search needs)
+    (λ c κs. search needs)
+    (λ c. search needs)
+    (λ c κs. search needs)
+    (λ c κs. search needs)
     returns)

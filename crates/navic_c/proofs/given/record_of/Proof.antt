@@ -10,14 +10,8 @@ use Rattle.navic_c.specs.Calls.{int64, recordOf}
 use Rattle.navic_c.proofs.given.record_of.Statement.{statement}
 use Rattle.navic_c.proofs.given.record_of.Tie as tie
 
-forty-two-requires : tie.Need-forty-two-requires
-forty-two-requires c κs = search needs
-
 body-requires : tie.Need-body-requires
 body-requires c κs = c .forty-two .ensures .1
-
-parse-requires : tie.Need-parse-requires
-parse-requires c κs = search needs
 
 returns : tie.Need-returns
 unfolding recordOf
@@ -27,4 +21,4 @@ returns c =
     ap (λ (e : Entry). e .«record») (c .parse .ensures ∙ ap fromBody body)
 
 pub record-of-spec : {M : Type 1} → statement M
-record-of-spec = tie.close (tie.spec forty-two-requires body-requires parse-requires returns)
+record-of-spec = tie.close (tie.spec (λ c κs. search needs) body-requires (λ c κs. search needs) returns)

@@ -27,9 +27,6 @@ abbrev μ-loop : tie.MeasureT-loop
 loop-holds : tie.Need-loop-holds Inv-loop μ-loop
 loop-holds c = (omega arith, λ k h. absurd (omega arith))
 
-mul-if1 : tie.Need-mul-if1 Inv-loop μ-loop
-mul-if1 c = search needs
-
 shared-slice-read-if1 : tie.Need-shared-slice-read-if1 Inv-loop μ-loop
 shared-slice-read-if1 c = omega arith
 
@@ -40,9 +37,6 @@ returns c =
     let from = c .before .before .before .loop .inv .0 in
     sym (at-most-false 0 (drop (a .from) (a .all .now)) (i - a .from) (omega (arith, length-drop (a .from) (a .all .now), c .before .before .loop-test .taken))
     (omega (arith, behind (a .all .now) (a .from) i from, c .if1 .taken)))
-
-add-i : tie.Need-add-i Inv-loop μ-loop
-add-i c = search needs
 
 loop-less : tie.Need-loop-less Inv-loop μ-loop
 loop-less c = omega arith
@@ -70,10 +64,10 @@ rest-zero-spec =
     Inv-loop
     μ-loop
     loop-holds
-    mul-if1
+    (λ c. search needs)
     shared-slice-read-if1
     returns
-    add-i
+    (λ c. search needs)
     loop-less
     loop-again
     returns-2)

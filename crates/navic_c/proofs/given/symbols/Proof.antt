@@ -12,12 +12,6 @@ use Rattle.navic_c.proofs.given.symbols.Tie as tie
 body-requires : tie.Need-body-requires
 body-requires c κs = c .pre
 
-with-check-requires : tie.Need-with-check-requires
-with-check-requires c κs = search needs
-
-send-requires : tie.Need-send-requires
-send-requires c κs = search needs
-
 returns : tie.Need-returns
 unfolding symbolsOf
 returns c =
@@ -25,4 +19,4 @@ returns c =
     c .send .ensures ∙ ap sentOf (w .with-check .ensures ∙ ap withCheck (w .before .before .body .ensures))
 
 pub symbols-spec : {M : Type 1} → statement M
-symbols-spec = tie.close (tie.spec body-requires with-check-requires send-requires returns)
+symbols-spec = tie.close (tie.spec body-requires (λ c κs. search needs) (λ c κs. search needs) returns)

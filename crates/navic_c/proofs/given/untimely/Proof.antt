@@ -13,21 +13,6 @@ use Rattle.navic_c.proofs.Words.{unsigned-at}
 use Rattle.navic_c.proofs.given.untimely.Statement.{statement}
 use Rattle.navic_c.proofs.given.untimely.Tie as tie
 
-array-read-natural : tie.Need-array-read-natural
-array-read-natural c = search needs
-
-natural-requires : tie.Need-natural-requires
-natural-requires c κs = search needs
-
-cast-new : tie.Need-cast-new
-cast-new c = search needs
-
-new-requires : tie.Need-new-requires
-new-requires c κs = search needs
-
-refused-requires : tie.Need-refused-requires
-refused-requires c κs = search needs
-
 returns : tie.Need-returns
 unfolding untimely
 returns c =
@@ -48,10 +33,10 @@ pub untimely-spec : {M : Type 1} → statement M
 untimely-spec =
     tie.close
     (tie.spec
-    array-read-natural
-    natural-requires
-    cast-new
-    new-requires
-    refused-requires
+    (λ c. search needs)
+    (λ c κs. search needs)
+    (λ c. search needs)
+    (λ c κs. search needs)
+    (λ c κs. search needs)
     returns
     returns-2)

@@ -10,15 +10,6 @@ use Rattle.navic_c.proofs.Answered.{all-copied, word-long, word-put}
 use Rattle.navic_c.proofs.lent.decode.Statement.{statement}
 use Rattle.navic_c.proofs.lent.decode.Tie as tie
 
-slice-aggregate-copy : tie.Need-slice-aggregate-copy
-slice-aggregate-copy c = search needs
-
-copy-requires : tie.Need-copy-requires
-copy-requires c κs = search needs
-
-nearest-requires : tie.Need-nearest-requires
-nearest-requires c κs = search needs
-
 slice-aggregate-copy-2 : tie.Need-slice-aggregate-copy-2
 slice-aggregate-copy-2 c =
     let found = c .before in
@@ -32,12 +23,6 @@ copy-requires-2 c κs =
     let copied = found .before .before .before .before in
     let start = copied .before .before .before .before in
     omega (arith, start .pre .1, word-long (start .args .coded .now) (start .pre .0) (found .nearest .ensures .1) (all-copied (start .args .coded .now) (start .pre .0) (copied .copy .ensures .1)))
-
-cast-result : tie.Need-cast-result
-cast-result c = search needs
-
-same-length : tie.Need-same-length
-same-length c = search needs
 
 returns : tie.Need-returns
 returns c =
@@ -55,11 +40,11 @@ pub decode-spec : {M : Type 1} → statement M
 decode-spec =
     tie.close
     (tie.spec
-    slice-aggregate-copy
-    copy-requires
-    nearest-requires
+    (λ c. search needs)
+    (λ c κs. search needs)
+    (λ c κs. search needs)
     slice-aggregate-copy-2
     copy-requires-2
-    cast-result
-    same-length
+    (λ c. search needs)
+    (λ c. search needs)
     returns)

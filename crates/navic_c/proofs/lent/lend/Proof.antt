@@ -9,25 +9,10 @@ use Rattle.navic_c.proofs.Answered.{not-done, table-put}
 use Rattle.navic_c.proofs.lent.lend.Statement.{statement}
 use Rattle.navic_c.proofs.lent.lend.Tie as tie
 
-enum-known-reading : tie.Need-enum-known-reading
-enum-known-reading c = search needs
-
 returns : tie.Need-returns
 returns c =
     let a = c .before .before .args in
     not-done (a .reading) (a .beside) (a .numbers .now) (c .match .keys2)
-
-table-numbers-requires : tie.Need-table-numbers-requires
-table-numbers-requires c κs = search needs
-
-slice-aggregate-copy : tie.Need-slice-aggregate-copy
-slice-aggregate-copy c = search needs
-
-copy-requires : tie.Need-copy-requires
-copy-requires c κs = search needs
-
-same-length : tie.Need-same-length
-same-length c = search needs
 
 returns-2 : tie.Need-returns-2
 returns-2 c =
@@ -43,10 +28,10 @@ pub lend-spec : {M : Type 1} → statement M
 lend-spec =
     tie.close
     (tie.spec
-    enum-known-reading
+    (λ c. search needs)
     returns
-    table-numbers-requires
-    slice-aggregate-copy
-    copy-requires
-    same-length
+    (λ c κs. search needs)
+    (λ c. search needs)
+    (λ c κs. search needs)
+    (λ c. search needs)
     returns-2)

@@ -8,18 +8,12 @@ use Rattle.navic_c.specs.Calls.{lineOfNumbers}
 use Rattle.navic_c.proofs.lent.no_room.Statement.{statement}
 use Rattle.navic_c.proofs.lent.no_room.Tie as tie
 
-line-requires : tie.Need-line-requires
-line-requires c κs = search needs
-
 returns : tie.Need-returns
 returns c = c .line .ensures ∙ sym (ap lineOfNumbers (not-600 numbered (c .before .before .before .args .symbols .now) 0 (c .before .if1 .taken)))
-
-line-requires-2 : tie.Need-line-requires-2
-line-requires-2 c κs = search needs
 
 returns-2 : tie.Need-returns-2
 returns-2 c =
     c .line2 .ensures ∙ sym (ap lineOfNumbers (little-room numbered (c .before .before .before .args .symbols .now) 0 (c .before .if1 .left) (omega arith)))
 
 pub no-room-spec : {M : Type 1} → statement M
-no-room-spec = tie.close (tie.spec line-requires returns line-requires-2 returns-2)
+no-room-spec = tie.close (tie.spec (λ c κs. search needs) returns (λ c κs. search needs) returns-2)

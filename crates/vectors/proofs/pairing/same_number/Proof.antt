@@ -16,14 +16,5 @@ equal-no-nan (fin s m e) h = tt
 float-to-bits-result : tie.Need-float-to-bits-result
 float-to-bits-result c = equal-no-nan _ (subst T (sym (c .if1 .taken)) tt)
 
-number-requires : tie.Need-number-requires
-number-requires c κs = search needs
-
-returns : tie.Need-returns
-returns c = search needs
-
-returns-2 : tie.Need-returns-2
-returns-2 c = search needs
-
 pub same-number-spec : {M : Type 1} → statement M
-same-number-spec = tie.close (tie.spec float-to-bits-result number-requires returns returns-2)
+same-number-spec = tie.close (tie.spec float-to-bits-result (λ c κs. search needs) (λ c. search needs) (λ c. search needs))

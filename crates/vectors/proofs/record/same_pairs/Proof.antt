@@ -10,57 +10,21 @@ Inv-loop row givei givd same₀ k₀ same k = k ≤ 15
 abbrev μ-loop : tie.MeasureT-loop
 μ-loop row givei givd same₀ k₀ same k = 15 - k
 
-loop-holds : tie.Need-loop-holds Inv-loop μ-loop
-loop-holds c = search needs
-
-cast-same : tie.Need-cast-same Inv-loop μ-loop
-cast-same c = search needs
-
-array-read-same : tie.Need-array-read-same Inv-loop μ-loop
-array-read-same c = search needs
-
-byte-requires : tie.Need-byte-requires Inv-loop μ-loop
-byte-requires c κs = search needs
-
-cast-same-2 : tie.Need-cast-same-2 Inv-loop μ-loop
-cast-same-2 c = search needs
-
-mul-same : tie.Need-mul-same Inv-loop μ-loop
-mul-same c = search needs
-
-array-read-same-2 : tie.Need-array-read-same-2 Inv-loop μ-loop
-array-read-same-2 c = search needs
-
-givd-at-requires : tie.Need-givd-at-requires Inv-loop μ-loop
-givd-at-requires c κs = search needs
-
-add-k : tie.Need-add-k Inv-loop μ-loop
-add-k c = search needs
-
-loop-less : tie.Need-loop-less Inv-loop μ-loop
-loop-less c = search needs
-
-loop-again : tie.Need-loop-again Inv-loop μ-loop
-loop-again c = search needs
-
-returns : tie.Need-returns Inv-loop μ-loop
-returns c = search needs
-
 pub same-pairs-spec : {M : Type 1} → statement M
 same-pairs-spec =
     tie.close
     (tie.spec
     Inv-loop
     μ-loop
-    loop-holds
-    cast-same
-    array-read-same
-    byte-requires
-    cast-same-2
-    mul-same
-    array-read-same-2
-    givd-at-requires
-    add-k
-    loop-less
-    loop-again
-    returns)
+    (λ c. search needs)
+    (λ c. search needs)
+    (λ c. search needs)
+    (λ c κs. search needs)
+    (λ c. search needs)
+    (λ c. search needs)
+    (λ c. search needs)
+    (λ c κs. search needs)
+    (λ c. search needs)
+    (λ c. search needs)
+    (λ c. search needs)
+    (λ c. search needs))
