@@ -4,7 +4,8 @@ ghost use mathlib.Core.Bool.{false};
 ghost use Prim.Native.Nat.{_<_};
 ghost use lib.Dec.{ltb};
 ghost use lib.IntN.{pos};
-ghost use lib.Ieee.{fin, minus};
+ghost use lib.Ieee.{fin, minus, nan};
+ghost use lib.ListN.{getD};
 ghost use Rattle.bits.specs.Lists.{pick};
 ghost use Rattle.message.specs.Numbers.{nothing};
 ghost use Rattle.message.specs.Records.{subframeOf};
@@ -86,26 +87,29 @@ fn powers(layout: Layout) -> [f64; 42]
     powers
 }
 
-// A raw number times a power of two.
-fn signed(raw: i32, power: f64) -> f64
-    ensures { λ r. ⌜ Scaled raw power r ⌝ }
+// A raw number times the power of row k.
+fn signed(raw: i32, powers: [f64; 42], k: usize) -> f64
+    requires { ⌜ k < 42 ⌝ }
+    ensures { λ r. ⌜ Scaled raw (getD powers k nan) r ⌝ }
 {
-    (raw as f64) * power
+    (raw as f64) * powers[k]
 }
 
-fn whole(raw: u32, power: f64) -> f64
-    ensures { λ r. ⌜ Scaled (pos raw) power r ⌝ }
+fn whole(raw: u32, powers: [f64; 42], k: usize) -> f64
+    requires { ⌜ k < 42 ⌝ }
+    ensures { λ r. ⌜ Scaled (pos raw) (getD powers k nan) r ⌝ }
 {
-    (raw as f64) * power
+    (raw as f64) * powers[k]
 }
 
-fn flag(set: bool, power: f64) -> f64
-    ensures { λ r. ⌜ Scaled (pos (pick set 1 0)) power r ⌝ }
+fn flag(set: bool, powers: [f64; 42], k: usize) -> f64
+    requires { ⌜ k < 42 ⌝ }
+    ensures { λ r. ⌜ Scaled (pos (pick set 1 0)) (getD powers k nan) r ⌝ }
 {
     if set {
-        whole(1, power)
+        whole(1, powers, k)
     } else {
-        whole(0, power)
+        whole(0, powers, k)
     }
 }
 
@@ -117,32 +121,32 @@ fn joined(a: Subframe1, b: Subframe2) -> Ephemeris
     let two = powers(Layout::Subframe2);
     let wn = a.wn;
     Ephemeris {
-        wn: whole(wn.number(), one[6]),
-        af0: signed(a.af0, one[7]),
-        af1: signed(a.af1, one[8]),
-        af2: signed(a.af2, one[9]),
-        ura: whole(a.ura, one[10]),
-        toc: whole(a.toc, one[11]),
-        tgd: signed(a.tgd, one[12]),
-        delta_n: signed(a.delta_n, one[13]),
-        iodec: whole(a.iodec, one[14]),
-        l5_flag: flag(a.l5_flag, one[16]),
-        s_flag: flag(a.s_flag, one[17]),
-        cuc: signed(a.cuc, one[18]),
-        cus: signed(a.cus, one[19]),
-        cic: signed(a.cic, one[20]),
-        cis: signed(a.cis, one[21]),
-        crc: signed(a.crc, one[22]),
-        crs: signed(a.crs, one[23]),
-        idot: signed(a.idot, one[24]),
-        m0: signed(b.m0, two[6]),
-        toe: whole(b.toe, two[7]),
-        e: whole(b.e, two[8]),
-        root_a: whole(b.root_a, two[9]),
-        omega0: signed(b.omega0, two[10]),
-        omega: signed(b.omega, two[11]),
-        omega_dot: signed(b.omega_dot, two[12]),
-        i0: signed(b.i0, two[13]),
+        wn: whole(wn.number(), one, 6),
+        af0: signed(a.af0, one, 7),
+        af1: signed(a.af1, one, 8),
+        af2: signed(a.af2, one, 9),
+        ura: whole(a.ura, one, 10),
+        toc: whole(a.toc, one, 11),
+        tgd: signed(a.tgd, one, 12),
+        delta_n: signed(a.delta_n, one, 13),
+        iodec: whole(a.iodec, one, 14),
+        l5_flag: flag(a.l5_flag, one, 16),
+        s_flag: flag(a.s_flag, one, 17),
+        cuc: signed(a.cuc, one, 18),
+        cus: signed(a.cus, one, 19),
+        cic: signed(a.cic, one, 20),
+        cis: signed(a.cis, one, 21),
+        crc: signed(a.crc, one, 22),
+        crs: signed(a.crs, one, 23),
+        idot: signed(a.idot, one, 24),
+        m0: signed(b.m0, two, 6),
+        toe: whole(b.toe, two, 7),
+        e: whole(b.e, two, 8),
+        root_a: whole(b.root_a, two, 9),
+        omega0: signed(b.omega0, two, 10),
+        omega: signed(b.omega, two, 11),
+        omega_dot: signed(b.omega_dot, two, 12),
+        i0: signed(b.i0, two, 13),
     }
 }
 

@@ -1,4 +1,4 @@
--- The record of a body's numbers, sorted into arrays, is the record of the numbers: kind by kind, since each takes a number only where its row has
+-- The record of the patterns of a body's numbers is the record of the numbers: kind by kind, since each takes a number only where its row has
 -- the width and the sign. Assumes nothing.
 use mathlib.Core.Path.{_≡_, refl, ap, subst}
 use mathlib.Core.Bool.{Bool, true, false}
@@ -12,11 +12,10 @@ use Rattle.fields.specs.declared.Layout.the-variants as layout
 use Rattle.fields.specs.Table.{head, messageId, prn, subframe1, subframe2, ionoGrid, almanac, timeOffsets, earthIono, dataBytes, rowsOf}
 use Rattle.fields.specs.Fields.{values}
 use Rattle.fields.specs.Patterns.{patterns}
-use Rattle.message.specs.declared.sorts.Raw.{Raw}
 use Rattle.message.specs.declared.Entry.{Entry}
 use Rattle.message.specs.declared.Record.the-variants as case
 use Rattle.message.specs.Numbers.{View, viewOf, unreadOf, dataOf}
-use Rattle.message.specs.Raw.{look, Sorted}
+use Rattle.message.specs.Raw.{look}
 use Rattle.message.specs.Records.{layoutBy, messageLayout, entryBy, messageBy}
 use Rattle.message.proofs.Choice.{test}
 use Rattle.message.proofs.Sorting.{upTo, there, there-same}
@@ -36,14 +35,14 @@ leads layout.TimeOffsets = tt
 leads layout.EarthIono = tt
 leads layout.Data = tt
 
-module _ (body a : List ℕ) (t : Raw) (s : Sorted a t) where
-  same : (l : Layout) → a ≡ patterns (values (rowsOf l) body) → there (rowsOf l) (look t) ≡ there (rowsOf l) (viewOf (values (rowsOf l) body))
+module _ (body a : List ℕ) where
+  same : (l : Layout) → a ≡ patterns (values (rowsOf l) body) → there (rowsOf l) (look a) ≡ there (rowsOf l) (viewOf (values (rowsOf l) body))
   same l e =
-      there-same body (rowsOf l) a t e s (λ i h. is-true (upTo 32 (rowsOf l) i) (every-at (λ i. upTo 32 (rowsOf l) i) 6 (leads l) i h))
+      there-same body (rowsOf l) a e (λ i h. is-true (upTo 32 (rowsOf l) i) (every-at (λ i. upTo 32 (rowsOf l) i) 6 (leads l) i h))
 
-  -- what `make` takes of the arrays is what it takes of the numbers of a body of the layout l
+  -- what `make` takes of the patterns is what it takes of the numbers of a body of the layout l
   abbrev Takes : Layout → (View → Entry) → Type 0
-  Takes l make = a ≡ patterns (values (rowsOf l) body) → make (look t) ≡ make (viewOf (values (rowsOf l) body))
+  Takes l make = a ≡ patterns (values (rowsOf l) body) → make (look a) ≡ make (viewOf (values (rowsOf l) body))
 
   message : (m : ℕ) → Takes (messageLayout m) (messageBy m)
   unfolding head messageId prn ionoGrid almanac timeOffsets earthIono dataBytes build

@@ -387,7 +387,7 @@ pub fn parse(body: &[u8; 262]) -> Entry
     let subframe = ids[4];
     let id = ids[6];
     let numbers = fields::read(body, layout_by(subframe, id));
-    records::entry(subframe, id, sorts::raw_of(numbers))
+    records::entry(subframe, id, numbers)
 }
 
 // The first bit of the lowest field that is outside its width; 293 if only an unused bit or number is not 0; else 0.

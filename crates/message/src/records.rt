@@ -1,7 +1,7 @@
 // From the numbers of a body to its record.
 ghost use mathlib.Core.Path.{_≡_};
-ghost use Rattle.message.specs.Numbers.{subframe1Of, subframe2Of, ionoGridOf, almanacOf, timeOffsetsOf, earthIonoOf, nullOf, unreadOf, pairsOf, dataOf};
-ghost use Rattle.message.specs.Records.{alone, dataBy, messageBy, entryBy};
+ghost use Rattle.message.specs.Numbers.{subframe1Of, subframe2Of, ionoGridOf, almanacOf, timeOffsetsOf, earthIonoOf, nullOf, unreadOf, pairsOf, dataOf, nothing};
+ghost use Rattle.message.specs.Records.{messageBy, entryBy};
 ghost use Rattle.message.specs.Raw.{look};
 use crate::Almanac;
 use crate::Beside;
@@ -14,223 +14,190 @@ use crate::Subframe1;
 use crate::Subframe2;
 use crate::TimeOffsets;
 use crate::Unread;
-use crate::sorts::Raw;
+use crate::sorts::flag_at;
+use crate::sorts::head_of;
+use crate::sorts::plain_at;
+use crate::sorts::signed_at;
+use crate::sorts::slot_of;
+use crate::sorts::week_at;
+use crate::sorts::wide_of;
 
-fn subframe1_of(t: Raw) -> Subframe1
+fn subframe1_of(t: [u64; 42]) -> Subframe1
     ensures { λ r. ⌜ r ≡ subframe1Of (look t) ⌝ }
 {
-    let plain = t.plain;
-    let signed = t.signed;
-    let head = t.head;
-    let weeks = t.weeks;
-    let wn = weeks[6];
     Subframe1 {
-        head,
-        wn,
-        af0: signed.n7,
-        af1: signed.n8,
-        af2: signed.n9,
-        ura: plain[10],
-        toc: plain[11],
-        tgd: signed.n12,
-        delta_n: signed.n13,
-        iodec: plain[14],
-        reserved: plain[15],
-        l5_flag: plain[16] == 1,
-        s_flag: plain[17] == 1,
-        cuc: signed.n18,
-        cus: signed.n19,
-        cic: signed.n20,
-        cis: signed.n21,
-        crc: signed.n22,
-        crs: signed.n23,
-        idot: signed.n24,
-        spare: plain[25],
+        head: head_of(t),
+        wn: week_at(t, 6),
+        af0: signed_at(t, 7),
+        af1: signed_at(t, 8),
+        af2: signed_at(t, 9),
+        ura: plain_at(t, 10),
+        toc: plain_at(t, 11),
+        tgd: signed_at(t, 12),
+        delta_n: signed_at(t, 13),
+        iodec: plain_at(t, 14),
+        reserved: plain_at(t, 15),
+        l5_flag: flag_at(t, 16),
+        s_flag: flag_at(t, 17),
+        cuc: signed_at(t, 18),
+        cus: signed_at(t, 19),
+        cic: signed_at(t, 20),
+        cis: signed_at(t, 21),
+        crc: signed_at(t, 22),
+        crs: signed_at(t, 23),
+        idot: signed_at(t, 24),
+        spare: plain_at(t, 25),
     }
 }
 
-fn subframe2_of(t: Raw) -> Subframe2
+fn subframe2_of(t: [u64; 42]) -> Subframe2
     ensures { λ r. ⌜ r ≡ subframe2Of (look t) ⌝ }
 {
-    let plain = t.plain;
-    let signed = t.signed;
-    let head = t.head;
     Subframe2 {
-        head,
-        m0: signed.n6,
-        toe: plain[7],
-        e: plain[8],
-        root_a: plain[9],
-        omega0: signed.n10,
-        omega: signed.n11,
-        omega_dot: signed.n12,
-        i0: signed.n13,
-        spare: plain[14],
+        head: head_of(t),
+        m0: signed_at(t, 6),
+        toe: plain_at(t, 7),
+        e: plain_at(t, 8),
+        root_a: plain_at(t, 9),
+        omega0: signed_at(t, 10),
+        omega: signed_at(t, 11),
+        omega_dot: signed_at(t, 12),
+        i0: signed_at(t, 13),
+        spare: plain_at(t, 14),
     }
 }
 
-fn iono_grid_of(t: Raw) -> IonoGrid
+fn iono_grid_of(t: [u64; 42]) -> IonoGrid
     ensures { λ r. ⌜ r ≡ ionoGridOf (look t) ⌝ }
 {
-    let plain = t.plain;
-    let head = t.head;
-    let slot = t.slot;
     IonoGrid {
-        head,
-        slot,
-        mask: plain[7],
-        region: plain[8],
-        iodi: plain[39],
-        spare: plain[40],
-        prn: plain[41],
+        head: head_of(t),
+        slot: slot_of(t),
+        mask: plain_at(t, 7),
+        region: plain_at(t, 8),
+        iodi: plain_at(t, 39),
+        spare: plain_at(t, 40),
+        prn: plain_at(t, 41),
     }
 }
 
-fn almanac_of(t: Raw) -> Almanac
+fn almanac_of(t: [u64; 42]) -> Almanac
     ensures { λ r. ⌜ r ≡ almanacOf (look t) ⌝ }
 {
-    let plain = t.plain;
-    let signed = t.signed;
-    let head = t.head;
-    let slot = t.slot;
-    let weeks = t.weeks;
-    let wna = weeks[7];
     Almanac {
-        head,
-        slot,
-        wna,
-        e: plain[8],
-        toa: plain[9],
-        i0: signed.n10,
-        omega_dot: signed.n11,
-        root_a: plain[12],
-        omega0: signed.n13,
-        omega: signed.n14,
-        m0: signed.n15,
-        af0: signed.n16,
-        af1: signed.n17,
-        prn_almanac: plain[18],
-        isc: signed.n19,
-        spare: plain[20],
-        prn: plain[21],
+        head: head_of(t),
+        slot: slot_of(t),
+        wna: week_at(t, 7),
+        e: plain_at(t, 8),
+        toa: plain_at(t, 9),
+        i0: signed_at(t, 10),
+        omega_dot: signed_at(t, 11),
+        root_a: plain_at(t, 12),
+        omega0: signed_at(t, 13),
+        omega: signed_at(t, 14),
+        m0: signed_at(t, 15),
+        af0: signed_at(t, 16),
+        af1: signed_at(t, 17),
+        prn_almanac: plain_at(t, 18),
+        isc: signed_at(t, 19),
+        spare: plain_at(t, 20),
+        prn: plain_at(t, 21),
     }
 }
 
-fn time_offsets_of(t: Raw) -> TimeOffsets
+fn time_offsets_of(t: [u64; 42]) -> TimeOffsets
     ensures { λ r. ⌜ r ≡ timeOffsetsOf (look t) ⌝ }
 {
-    let plain = t.plain;
-    let signed = t.signed;
-    let head = t.head;
-    let slot = t.slot;
-    let weeks = t.weeks;
-    let wn_utc = weeks[12];
-    let wn_leap = weeks[13];
-    let wn_gnss = weeks[20];
     TimeOffsets {
-        head,
-        slot,
-        a0_utc: signed.n7,
-        a1_utc: signed.n8,
-        a2_utc: signed.n9,
-        leap_seconds: signed.n10,
-        t_utc: plain[11],
-        wn_utc,
-        wn_leap,
-        day_leap: plain[14],
-        leap_seconds_next: signed.n15,
-        a0: signed.n16,
-        a1: signed.n17,
-        a2: signed.n18,
-        t_gnss: plain[19],
-        wn_gnss,
-        gnss_id: plain[21],
-        spare: t.wide,
-        prn: plain[23],
+        head: head_of(t),
+        slot: slot_of(t),
+        a0_utc: signed_at(t, 7),
+        a1_utc: signed_at(t, 8),
+        a2_utc: signed_at(t, 9),
+        leap_seconds: signed_at(t, 10),
+        t_utc: plain_at(t, 11),
+        wn_utc: week_at(t, 12),
+        wn_leap: week_at(t, 13),
+        day_leap: plain_at(t, 14),
+        leap_seconds_next: signed_at(t, 15),
+        a0: signed_at(t, 16),
+        a1: signed_at(t, 17),
+        a2: signed_at(t, 18),
+        t_gnss: plain_at(t, 19),
+        wn_gnss: week_at(t, 20),
+        gnss_id: plain_at(t, 21),
+        spare: wide_of(t),
+        prn: plain_at(t, 23),
     }
 }
 
-fn earth_iono_of(t: Raw) -> EarthIono
+fn earth_iono_of(t: [u64; 42]) -> EarthIono
     ensures { λ r. ⌜ r ≡ earthIonoOf (look t) ⌝ }
 {
-    let plain = t.plain;
-    let signed = t.signed;
-    let head = t.head;
-    let slot = t.slot;
     EarthIono {
-        head,
-        slot,
-        t_eop: plain[7],
-        pm_x: signed.n8,
-        pm_x_dot: signed.n9,
-        pm_y: signed.n10,
-        pm_y_dot: signed.n11,
-        d_ut1: signed.n12,
-        d_ut1_dot: signed.n13,
-        alpha0: signed.n14,
-        alpha1: signed.n15,
-        alpha2: signed.n16,
-        alpha3: signed.n17,
-        beta0: signed.n18,
-        beta1: signed.n19,
-        beta2: signed.n20,
-        beta3: signed.n21,
-        spare: plain[22],
-        prn: plain[23],
+        head: head_of(t),
+        slot: slot_of(t),
+        t_eop: plain_at(t, 7),
+        pm_x: signed_at(t, 8),
+        pm_x_dot: signed_at(t, 9),
+        pm_y: signed_at(t, 10),
+        pm_y_dot: signed_at(t, 11),
+        d_ut1: signed_at(t, 12),
+        d_ut1_dot: signed_at(t, 13),
+        alpha0: signed_at(t, 14),
+        alpha1: signed_at(t, 15),
+        alpha2: signed_at(t, 16),
+        alpha3: signed_at(t, 17),
+        beta0: signed_at(t, 18),
+        beta1: signed_at(t, 19),
+        beta2: signed_at(t, 20),
+        beta3: signed_at(t, 21),
+        spare: plain_at(t, 22),
+        prn: plain_at(t, 23),
     }
 }
 
-fn null_of(t: Raw) -> Null
+fn null_of(t: [u64; 42]) -> Null
     ensures { λ r. ⌜ r ≡ nullOf (look t) ⌝ }
 {
-    let plain = t.plain;
-    let head = t.head;
-    let slot = t.slot;
     Null {
-        head,
-        slot,
-        prn: plain[35],
+        head: head_of(t),
+        slot: slot_of(t),
+        prn: plain_at(t, 35),
     }
 }
 
-fn unread_of(t: Raw) -> Unread
+fn unread_of(t: [u64; 42]) -> Unread
     ensures { λ r. ⌜ r ≡ unreadOf (look t) ⌝ }
 {
-    let plain = t.plain;
-    let head = t.head;
-    let slot = t.slot;
     Unread {
-        head,
-        slot,
-        id: plain[6],
-        prn: plain[35],
+        head: head_of(t),
+        slot: slot_of(t),
+        id: plain_at(t, 6),
+        prn: plain_at(t, 35),
     }
 }
 
-fn alone_of(record: Record) -> Entry
-    ensures { λ r. ⌜ r ≡ alone «record» ⌝ }
+fn nothing_beside() -> Beside
+    ensures { λ r. ⌜ r ≡ nothing ⌝ }
 {
-    Entry {
-        record,
-        beside: Beside {
-            bits: [0; 28],
-            givei: [0; 15],
-            givd: [0; 15],
-        },
+    Beside {
+        bits: [0; 28],
+        givei: [0; 15],
+        givd: [0; 15],
     }
 }
 
 // Type 5's pairs.
-fn pairs_of(t: Raw) -> Beside
+fn pairs_of(t: [u64; 42]) -> Beside
     ensures { λ r. ⌜ r ≡ pairsOf (look t) ⌝ }
 {
-    let plain = t.plain;
     let mut givei = [0u8; 15];
     let mut givd = [0u16; 15];
     let mut i = 0;
     while i < 15 {
-        givei[i] = (plain[9 + 2 * i] % 16) as u8;
-        givd[i] = (plain[10 + 2 * i] % 65536) as u16;
+        givei[i] = (t[9 + 2 * i] % 16) as u8;
+        givd[i] = (t[10 + 2 * i] % 65536) as u16;
         i += 1;
     }
     Beside {
@@ -241,17 +208,16 @@ fn pairs_of(t: Raw) -> Beside
 }
 
 // The 220 bits of a message, whose last byte has four.
-fn data_of(t: Raw) -> Beside
+fn data_of(t: [u64; 42]) -> Beside
     ensures { λ r. ⌜ r ≡ dataOf (look t) ⌝ }
 {
-    let plain = t.plain;
     let mut bits = [0u8; 28];
     let mut i = 0;
     while i < 27 {
-        bits[i] = (plain[7 + i] % 256) as u8;
+        bits[i] = (t[7 + i] % 256) as u8;
         i += 1;
     }
-    bits[27] = (plain[34] % 16) as u8 * 16;
+    bits[27] = (t[34] % 16) as u8 * 16;
     Beside {
         bits,
         givei: [0; 15],
@@ -259,56 +225,62 @@ fn data_of(t: Raw) -> Beside
     }
 }
 
-// A message that keeps its 220 bits.
-fn data_message(id: u64, t: Raw) -> Entry
-    ensures { λ r. ⌜ r ≡ dataBy id (look t) ⌝ }
+// The record of a message, by its ID.
+fn message_record(id: u64, t: [u64; 42]) -> Record
+    ensures { λ r. ⌜ r ≡ messageBy id (look t) .«record» ⌝ }
 {
-    let beside = data_of(t);
-    if id == 0 {
-        return Entry {
-            record: Record::Null(null_of(t)),
-            beside,
-        };
-    }
-    Entry {
-        record: Record::Unread(unread_of(t)),
-        beside,
+    match id {
+        5 => Record::IonoGrid(iono_grid_of(t)),
+        7 => Record::Almanac(almanac_of(t)),
+        9 => Record::GpsTime(time_offsets_of(t)),
+        11 => Record::EarthIono(earth_iono_of(t)),
+        26 => Record::GnssTime(time_offsets_of(t)),
+        0 => Record::Null(null_of(t)),
+        _ => Record::Unread(unread_of(t)),
     }
 }
 
-fn message(id: u64, t: Raw) -> Entry
-    ensures { λ r. ⌜ r ≡ messageBy id (look t) ⌝ }
+// What stands beside the record of a message.
+fn message_beside(id: u64, t: [u64; 42]) -> Beside
+    ensures { λ r. ⌜ r ≡ messageBy id (look t) .beside ⌝ }
 {
-    if id == 5 {
-        return Entry {
-            record: Record::IonoGrid(iono_grid_of(t)),
-            beside: pairs_of(t),
-        };
+    match id {
+        5 => pairs_of(t),
+        7 => nothing_beside(),
+        9 => nothing_beside(),
+        11 => nothing_beside(),
+        26 => nothing_beside(),
+        _ => data_of(t),
     }
-    if id == 7 {
-        return alone_of(Record::Almanac(almanac_of(t)));
-    }
-    if id == 9 {
-        return alone_of(Record::GpsTime(time_offsets_of(t)));
-    }
-    if id == 11 {
-        return alone_of(Record::EarthIono(earth_iono_of(t)));
-    }
-    if id == 26 {
-        return alone_of(Record::GnssTime(time_offsets_of(t)));
-    }
-    data_message(id, t)
 }
 
-// The record of a body with these IDs.
-pub fn entry(subframe: u64, id: u64, t: Raw) -> Entry
+// The same of a body, by its subframe ID.
+fn record_of(subframe: u64, id: u64, t: [u64; 42]) -> Record
+    ensures { λ r. ⌜ r ≡ entryBy subframe id (look t) .«record» ⌝ }
+{
+    match subframe {
+        0 => Record::Subframe1(subframe1_of(t)),
+        1 => Record::Subframe2(subframe2_of(t)),
+        _ => message_record(id, t),
+    }
+}
+
+fn beside_of(subframe: u64, id: u64, t: [u64; 42]) -> Beside
+    ensures { λ r. ⌜ r ≡ entryBy subframe id (look t) .beside ⌝ }
+{
+    match subframe {
+        0 => nothing_beside(),
+        1 => nothing_beside(),
+        _ => message_beside(id, t),
+    }
+}
+
+// The record of a body with these IDs, and what stands beside it.
+pub fn entry(subframe: u64, id: u64, t: [u64; 42]) -> Entry
     ensures { λ r. ⌜ r ≡ entryBy subframe id (look t) ⌝ }
 {
-    if subframe == 0 {
-        return alone_of(Record::Subframe1(subframe1_of(t)));
+    Entry {
+        record: record_of(subframe, id, t),
+        beside: beside_of(subframe, id, t),
     }
-    if subframe == 1 {
-        return alone_of(Record::Subframe2(subframe2_of(t)));
-    }
-    message(id, t)
 }

@@ -26,9 +26,9 @@ use Rattle.navic.specs.declared.Reading.{Reading}
 use Rattle.navic.specs.declared.Reading.the-variants as reading
 use Rattle.navic.specs.declared.Readout.{Readout}
 use Rattle.navic.specs.declared.Written.the-variants as written
-use Rattle.navic.specs.Family as any
+use Rattle.demands.specs.Family as any
 use Rattle.navic.specs.Navic.{family, refusedBy, readOf, isDone, answer, lentAfterRead, entryOf, entryRefusal, entryBeside, writeAnswer, lentAfterWrite}
-use Rattle.navic.proofs.Ordered.{not-600, little-room, by-link}
+use Rattle.demands.proofs.Ordered.{not-600, little-room, by-link}
 
 -- ---- the reader
 module _ (e : Entry) (q : Quality) where

@@ -15,7 +15,7 @@ use lib.Seq.{set-out, set-append-seam, take-suc, take-at, append-snoc}
 use Rattle.bits.specs.Lists.{at, pick}
 use Rattle.navic.specs.Input.{symbolOf, symbolsIn, keptAfter, countAfter, Gathered, lineAfter}
 use Rattle.navic.specs.Navic.{family, answer, lineOf}
-use Rattle.navic.proofs.Ordered.{not-600}
+use Rattle.demands.proofs.Ordered.{not-600}
 
 -- ---- two pieces, one after the other
 pick-append : (t : Bool) (x y b : List ℕ) → pick t (x ++ b) (y ++ b) ≡ pick t x y ++ b

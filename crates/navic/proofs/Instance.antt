@@ -12,8 +12,8 @@ use Rattle.weektime.specs.Time.{towcRefused}
 use Rattle.message.specs.declared.Entry.{Entry}
 use Rattle.message.specs.Records.{fromBody, toBody, faultOf, idRefused, towcIn}
 use Rattle.message.proofs.Laws.{body-long, body-bits, record-back, body-back, read-accepted}
-use Rattle.navic.specs.Refusals.{Refusal, Given, none, here, later}
-use Rattle.navic.specs.Family.{IsBody, Family, Lawful}
+use Rattle.demands.specs.Refusals.{Refusal, Given, none, here, later}
+use Rattle.demands.specs.Family.{IsBody, Family, Lawful}
 use Rattle.navic.specs.Navic.{entryConditions, entryRefusal, family}
 
 pub clash : {b : Bool} → b ≡ false → b ≡ true → ⊥

@@ -25,15 +25,15 @@ use Rattle.navic.specs.declared.Reading.the-variants as reading
 use Rattle.navic.specs.declared.Readout.{Readout}
 use Rattle.navic.specs.declared.Written.{Written}
 use Rattle.navic.specs.declared.Written.the-variants as written
-use Rattle.navic.specs.Refusals.{Given}
-use Rattle.navic.specs.Family as any
-use Rattle.navic.specs.Family.{readerConditions, writerConditions}
+use Rattle.demands.specs.Refusals.{Given}
+use Rattle.demands.specs.Family as any
+use Rattle.demands.specs.Family.{readerConditions, writerConditions}
 use Rattle.navic.specs.Navic.{family, quality, answer, readOf, numberIn, isDone, qualityIn, lineOf, lentAfterRead, writeAnswer, writtenBy, writtenNumber, writtenBeside, entryOf, entryRefusal, entryBeside, lentAfterWrite}
 use Rattle.navic.proofs.Answers.{read-is}
-use Rattle.navic.proofs.Besides as besides
-use Rattle.navic.proofs.Demands as demands
+use Rattle.demands.proofs.Besides as besides
+use Rattle.demands.proofs.Demands as demands
 use Rattle.navic.proofs.Instance.{lawful}
-use Rattle.navic.proofs.Ordered.{reader-ordered, writer-ordered}
+use Rattle.demands.proofs.Ordered.{reader-ordered, writer-ordered}
 
 -- the 600 upright symbols of a record and what stands beside it
 abbrev pub symbolsOf : Record → Beside → List ℕ

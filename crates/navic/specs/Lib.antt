@@ -1,4 +1,2 @@
-pub mod Family
 pub mod Input
 pub mod Navic
-pub mod Refusals

@@ -19,9 +19,9 @@ use Rattle.navic.specs.declared.Readout.{Readout}
 use Rattle.navic.specs.declared.Written.{Written}
 use Rattle.navic.specs.declared.Written.the-variants as written
 use Rattle.navic.specs.declared.Numbers.{Numbers}
-use Rattle.navic.specs.Refusals.{Refusal}
-use Rattle.navic.specs.Family as any
-use Rattle.navic.specs.Family.{Family, Why, done, refused, notOf600, littleRoom, badSymbol, noSync, noWord, isIdle, badCheck, badTime}
+use Rattle.demands.specs.Refusals.{Refusal}
+use Rattle.demands.specs.Family as any
+use Rattle.demands.specs.Family.{Family, Why, done, refused, notOf600, littleRoom, badSymbol, noSync, noWord, isIdle, badCheck, badTime}
 
 -- ---- the family
 -- the writer's own refusals of an entry, in their order

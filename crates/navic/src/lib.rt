@@ -5,7 +5,7 @@ ghost use Prim.Native.Nat.{_+_, _≤_};
 ghost use lib.ListN.{length, take, drop};
 ghost use Rattle.bits.specs.Lists.{part, pick};
 ghost use Rattle.bits.specs.Numbers.{number};
-ghost use Rattle.navic.specs.Family.{packed};
+ghost use Rattle.demands.specs.Family.{packed};
 ghost use Rattle.navic.specs.Navic.{answer, lentAfterRead, lineOf, writeAnswer, lentAfterWrite};
 use message::Beside;
 use message::Record;

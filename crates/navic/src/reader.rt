@@ -1,6 +1,6 @@
 // The reader's steps, from what the link says of 600 symbols to a record.
 ghost use mathlib.Core.Path.{_≡_};
-ghost use Rattle.navic.specs.Family.{byTime, byCheck, byLink};
+ghost use Rattle.demands.specs.Family.{byTime, byCheck, byLink};
 ghost use Rattle.navic.specs.Navic.{family, refusedBy, readOf, isDone};
 use crate::Quality;
 use crate::Reading;

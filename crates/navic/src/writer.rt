@@ -1,6 +1,6 @@
 // The writer's way from a record to 600 symbols.
 ghost use mathlib.Core.Path.{_≡_};
-ghost use Rattle.navic.specs.Family.{symbolsOf};
+ghost use Rattle.demands.specs.Family.{symbolsOf};
 ghost use Rattle.navic.specs.Navic.{family, entryOf};
 use message::Beside;
 use message::Record;

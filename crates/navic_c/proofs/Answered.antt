@@ -27,9 +27,9 @@ use Rattle.message.proofs.Laws.{numbers-long}
 use Rattle.navic.specs.declared.Reading as navic
 use Rattle.navic.specs.declared.Reading.the-variants as reading
 use Rattle.navic.specs.declared.Readout.{Readout}
-use Rattle.navic.specs.Family.{Reading, done, refused, notOf600, littleRoom, badSymbol, noSync, noWord, isIdle, badCheck, badTime, readingOf, afterReading, readInto, writingOf, writeInto, symbolsOf}
+use Rattle.demands.specs.Family.{Reading, done, refused, notOf600, littleRoom, badSymbol, noSync, noWord, isIdle, badCheck, badTime, readingOf, afterReading, readInto, writingOf, writeInto, symbolsOf}
 use Rattle.navic.specs.Navic.{family, readOf, answer, lentAfterRead}
-use Rattle.navic.proofs.Ordered.{not-600, little-room}
+use Rattle.demands.proofs.Ordered.{not-600, little-room}
 use Rattle.navic.proofs.Packing.{copied, copied-whole}
 use Rattle.navic.proofs.Reading.{the-type}
 use Rattle.navic_c.specs.declared.Written.{Written}

@@ -17,7 +17,7 @@ use Rattle.convolution.proofs.Corrected.{hard-cost}
 use Rattle.convolution.proofs.Decoded.{nearest-decode}
 use Rattle.fields.specs.Patterns.{pattern}
 use Rattle.link.specs.Link.{receiveOf}
-use Rattle.navic.specs.Family.{Why, done, refused, packed, writingOf, writeInto, symbolsOf}
+use Rattle.demands.specs.Family.{Why, done, refused, packed, writingOf, writeInto, symbolsOf}
 use Rattle.navic_c.specs.Numbers.{numbered}
 use Rattle.navic_c.specs.Calls.{int64, readFrom, wordAfter, numbersAfter, writtenOf, nearestRefusal, nearestAnswer, nearestInto}
 use Rattle.navic_c.proofs.Lawful.{sound}

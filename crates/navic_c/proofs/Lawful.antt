@@ -20,8 +20,8 @@ use Rattle.fields.proofs.Rules.{few}
 use Rattle.message.specs.Numbers.{unsigned}
 use Rattle.message.proofs.Laws.{no-fault}
 use Rattle.message.specs.Records.{layoutBy, subframeId, messageId}
-use Rattle.navic.specs.Refusals.{Given, none, here, later}
-use Rattle.navic.specs.Family.{IsBody, Lawful}
+use Rattle.demands.specs.Refusals.{Given, none, here, later}
+use Rattle.demands.specs.Family.{IsBody, Lawful}
 use Rattle.navic.proofs.Instance.{clash}
 use Rattle.navic_c.specs.Numbers.{padded, numbersOfBody, layoutIn, rowsIn, bodyFrom, idAbove, untimely, allZero, faultFrom, conditions, refusal, numbered}
 use Rattle.navic_c.proofs.Padding.{padded-again, body-ahead, fault-ahead, padded-42, padded-body, padded-fault}

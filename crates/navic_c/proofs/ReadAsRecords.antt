@@ -20,7 +20,7 @@ use Rattle.message.specs.declared.Beside.{Beside}
 use Rattle.message.specs.Numbers.{unsigned, slotId}
 use Rattle.message.specs.Records.{fromBody, numbersOf, layoutBy, subframeId, messageId, towcIn, idOf, messageIdOf}
 use Rattle.message.proofs.Reading.{reads}
-use Rattle.navic.specs.Family.{Reading, Why, done, refused, notOf600, littleRoom, badSymbol, noSync, noWord, isIdle, badCheck, badTime, byTime, byLink, readingOf}
+use Rattle.demands.specs.Family.{Reading, Why, done, refused, notOf600, littleRoom, badSymbol, noSync, noWord, isIdle, badCheck, badTime, byTime, byLink, readingOf}
 use Rattle.navic.specs.Navic as navic
 use Rattle.navic.specs.Navic.{family, quality, lineFrom, readOf, answer}
 use Rattle.weektime.specs.Time.{towcRefused}

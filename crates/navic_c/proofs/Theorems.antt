@@ -25,11 +25,11 @@ use Rattle.framing.specs.Frame.{turnedIf}
 use Rattle.link.specs.Promise.{alteredCoded, Altered, Taken}
 use Rattle.link.specs.Link.{sentOf, receiveOf}
 use Rattle.message.proofs.Laws.{no-fault}
-use Rattle.navic.specs.Refusals.{Given}
-use Rattle.navic.specs.Family.{Reading, done, refused, readerConditions, writerConditions, readingNumber, readingOf, writingOf, symbolsOf}
-use Rattle.navic.proofs.Demands as demands
+use Rattle.demands.specs.Refusals.{Given}
+use Rattle.demands.specs.Family.{Reading, done, refused, readerConditions, writerConditions, readingNumber, readingOf, writingOf, symbolsOf}
+use Rattle.demands.proofs.Demands as demands
 use Rattle.navic.proofs.Instance.{clash}
-use Rattle.navic.proofs.Ordered.{reader-ordered, writer-ordered}
+use Rattle.demands.proofs.Ordered.{reader-ordered, writer-ordered}
 use Rattle.navic_c.specs.Numbers.{layoutIn, rowsIn, allZero, faultFrom, refusal, numbered}
 use Rattle.navic_c.specs.Calls.{int64, readFrom, lineOfNumbers, writtenOf}
 use Rattle.navic_c.proofs.Lawful.{lawful, sound}

@@ -18,7 +18,7 @@ use Rattle.message.proofs.Choice.{neither}
 use Rattle.message.proofs.Laws.{numbers-long}
 use Rattle.message.proofs.Return.{Named, layout-back}
 use Rattle.bits.specs.Lists.{pick}
-use Rattle.navic.specs.Family.{writingOf, writeInto, symbolsOf}
+use Rattle.demands.specs.Family.{writingOf, writeInto, symbolsOf}
 use Rattle.navic.specs.Navic.{family, entryOf, entryRefusal, entryBeside, writtenBy, writtenNumber, writtenBeside, writeAnswer, lentAfterWrite}
 use Rattle.navic_c.specs.declared.Written.{Written}
 use Rattle.weektime.specs.Time.{towcRefused}

@@ -23,7 +23,7 @@ use Rattle.navic.specs.declared.Numbers.{Numbers}
 use Rattle.navic.specs.declared.Reading as navic
 use Rattle.navic.specs.declared.Reading.the-variants as reading
 use Rattle.message.specs.declared.Beside.{Beside}
-use Rattle.navic.specs.Family.{Reading, done, refused, numberOf, readingOf, writingOf, afterReading}
+use Rattle.demands.specs.Family.{Reading, done, refused, numberOf, readingOf, writingOf, afterReading}
 use Rattle.navic.specs.Navic.{quality, lineFrom}
 use Rattle.weektime.specs.Time.{beganOf, countOf, beganNumber, beganSecond, countedNumber, countedCount}
 use Rattle.navic_c.specs.declared.Written.{Written}

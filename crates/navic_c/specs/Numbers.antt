@@ -15,8 +15,8 @@ use Rattle.fields.specs.Fields.{values, bodyOf, faultIn}
 use Rattle.idle.specs.Idle.{idleOf}
 use Rattle.message.specs.Numbers.{unsigned}
 use Rattle.message.specs.Records.{layoutBy, subframeId, messageId}
-use Rattle.navic.specs.Family.{Family}
-use Rattle.navic.specs.Refusals.{Refusal}
+use Rattle.demands.specs.Family.{Family}
+use Rattle.demands.specs.Refusals.{Refusal}
 use Rattle.weektime.specs.Time.{towcRefused}
 
 -- ---- numbers and bodies

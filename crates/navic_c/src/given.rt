@@ -6,7 +6,7 @@ ghost use mir.Val.{toZ};
 ghost use Rattle.bits.specs.Lists.{atMost};
 ghost use Rattle.fields.specs.Fields.{faultIn};
 ghost use Rattle.message.specs.Numbers.{nat};
-ghost use Rattle.navic.specs.Family.{symbolsOf};
+ghost use Rattle.demands.specs.Family.{symbolsOf};
 ghost use Rattle.navic_c.specs.Numbers.{layoutIn, rowsIn, idAbove, untimely, faultFrom, bodyFrom, refusal, beside, numbered};
 ghost use Rattle.navic_c.specs.Calls.{int64, Words, fitting, recordOf};
 use crate::Written;

@@ -5,7 +5,7 @@ ghost use Prim.Native.Nat.{_≤_};
 ghost use lib.ListN.{length, take, drop};
 ghost use Rattle.convolution.specs.Code.{cost};
 ghost use Rattle.convolution.specs.Trellis.{decode};
-ghost use Rattle.navic.specs.Family.{readingOf};
+ghost use Rattle.demands.specs.Family.{readingOf};
 ghost use Rattle.navic_c.specs.Numbers.{numbered};
 ghost use Rattle.navic_c.specs.Calls.{Few, lineOfNumbers, numbersBy};
 use message::Beside;

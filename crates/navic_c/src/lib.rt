@@ -2,7 +2,7 @@
 // them, and 0 behind them; here they are the same 64 bits as u64.
 ghost use mathlib.Core.Path.{_≡_};
 ghost use lib.ListN.{length};
-ghost use Rattle.navic.specs.Family.{writeInto};
+ghost use Rattle.demands.specs.Family.{writeInto};
 ghost use Rattle.recording.specs.Walk.{foundFrom};
 ghost use Rattle.navic_c.specs.Numbers.{numbered};
 ghost use Rattle.navic_c.specs.Calls.{int64, readFrom, lineOfNumbers, wordAfter, numbersAfter, writtenOf, pairedOf, idleOfNumbers, beganFrom, countedFrom, nearestAnswer, nearestInto};

@@ -6,6 +6,7 @@ use crate::record::same_record;
 use crate::row;
 use crate::tally;
 use crate::tally::Outcome;
+use message::Beside;
 use navic::Numbers;
 use navic::Reading;
 
@@ -60,9 +61,9 @@ fn same_lent(bytes: [u8; 40], n: usize, row: &[u8]) -> bool {
     same
 }
 
-fn same_reading(reading: Reading, row: &[u8]) -> bool {
+fn same_reading(reading: Reading, beside: Beside, row: &[u8]) -> bool {
     match reading {
-        Reading::Done(found, _) => same_record(found, row),
+        Reading::Done(found, _) => same_record(found, beside, row),
         _ => case(row) == 0,
     }
 }
@@ -77,7 +78,7 @@ pub fn run(row: &[u8]) -> Outcome {
     let line = navic::line(reading);
     let same = same_line(line, row, LINE)
         & same_lent(bytes, n, row)
-        & same_reading(reading, row)
+        & same_reading(reading, beside, row)
         & same_beside(beside, row);
     tally::judged(same)
 }

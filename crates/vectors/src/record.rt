@@ -260,177 +260,33 @@ pub fn beside(row: &[u8]) -> Beside {
     }
 }
 
-fn same_head(head: Head, row: &[u8]) -> bool {
-    let towc = head.towc;
-    (head.tlm == plain(row, 0))
-        & (towc.count() == plain(row, 1))
-        & (head.alert == flag(row, 2))
-        & (head.auto_nav == flag(row, 3))
-        & (head.spare == plain(row, 5))
-}
-
-fn same_slot(slot: Slot, row: &[u8]) -> bool {
-    match slot {
-        Slot::Subframe3 => plain(row, 4) == 2,
-        Slot::Subframe4 => plain(row, 4) == 3,
-    }
-}
-
-fn same_subframe1(c: Subframe1, row: &[u8]) -> bool {
-    let head = c.head;
-    let wn = c.wn;
-    same_head(head, row)
-        & (wn.number() == plain(row, 6))
-        & (c.af0 == signed(row, 7))
-        & (c.af1 == signed(row, 8))
-        & (c.af2 == signed(row, 9))
-        & (c.ura == plain(row, 10))
-        & (c.toc == plain(row, 11))
-        & (c.tgd == signed(row, 12))
-        & (c.delta_n == signed(row, 13))
-        & (c.iodec == plain(row, 14))
-        & (c.reserved == plain(row, 15))
-        & (c.l5_flag == flag(row, 16))
-        & (c.s_flag == flag(row, 17))
-        & (c.cuc == signed(row, 18))
-        & (c.cus == signed(row, 19))
-        & (c.cic == signed(row, 20))
-        & (c.cis == signed(row, 21))
-        & (c.crc == signed(row, 22))
-        & (c.crs == signed(row, 23))
-        & (c.idot == signed(row, 24))
-        & (c.spare == plain(row, 25))
-}
-
-fn same_subframe2(c: Subframe2, row: &[u8]) -> bool {
-    let head = c.head;
-    same_head(head, row)
-        & (c.m0 == signed(row, 6))
-        & (c.toe == plain(row, 7))
-        & (c.e == plain(row, 8))
-        & (c.root_a == plain(row, 9))
-        & (c.omega0 == signed(row, 10))
-        & (c.omega == signed(row, 11))
-        & (c.omega_dot == signed(row, 12))
-        & (c.i0 == signed(row, 13))
-        & (c.spare == plain(row, 14))
-}
-
-fn same_iono_grid(c: IonoGrid, row: &[u8]) -> bool {
-    let head = c.head;
-    let slot = c.slot;
-    same_head(head, row)
-        & same_slot(slot, row)
-        & (c.mask == plain(row, 7))
-        & (c.region == plain(row, 8))
-        & (c.iodi == plain(row, 39))
-        & (c.spare == plain(row, 40))
-        & (c.prn == plain(row, 41))
-}
-
-fn same_almanac(c: Almanac, row: &[u8]) -> bool {
-    let head = c.head;
-    let slot = c.slot;
-    let wna = c.wna;
-    same_head(head, row)
-        & same_slot(slot, row)
-        & (wna.number() == plain(row, 7))
-        & (c.e == plain(row, 8))
-        & (c.toa == plain(row, 9))
-        & (c.i0 == signed(row, 10))
-        & (c.omega_dot == signed(row, 11))
-        & (c.root_a == plain(row, 12))
-        & (c.omega0 == signed(row, 13))
-        & (c.omega == signed(row, 14))
-        & (c.m0 == signed(row, 15))
-        & (c.af0 == signed(row, 16))
-        & (c.af1 == signed(row, 17))
-        & (c.prn_almanac == plain(row, 18))
-        & (c.isc == signed(row, 19))
-        & (c.spare == plain(row, 20))
-        & (c.prn == plain(row, 21))
-}
-
-fn same_time_offsets(c: TimeOffsets, row: &[u8]) -> bool {
-    let head = c.head;
-    let slot = c.slot;
-    let wn_utc = c.wn_utc;
-    let wn_leap = c.wn_leap;
-    let wn_gnss = c.wn_gnss;
-    same_head(head, row)
-        & same_slot(slot, row)
-        & (c.a0_utc == signed(row, 7))
-        & (c.a1_utc == signed(row, 8))
-        & (c.a2_utc == signed(row, 9))
-        & (c.leap_seconds == signed(row, 10))
-        & (c.t_utc == plain(row, 11))
-        & (wn_utc.number() == plain(row, 12))
-        & (wn_leap.number() == plain(row, 13))
-        & (c.day_leap == plain(row, 14))
-        & (c.leap_seconds_next == signed(row, 15))
-        & (c.a0 == signed(row, 16))
-        & (c.a1 == signed(row, 17))
-        & (c.a2 == signed(row, 18))
-        & (c.t_gnss == plain(row, 19))
-        & (wn_gnss.number() == plain(row, 20))
-        & (c.gnss_id == plain(row, 21))
-        & (c.spare == number(row, 22))
-        & (c.prn == plain(row, 23))
-}
-
-fn same_earth_iono(c: EarthIono, row: &[u8]) -> bool {
-    let head = c.head;
-    let slot = c.slot;
-    same_head(head, row)
-        & same_slot(slot, row)
-        & (c.t_eop == plain(row, 7))
-        & (c.pm_x == signed(row, 8))
-        & (c.pm_x_dot == signed(row, 9))
-        & (c.pm_y == signed(row, 10))
-        & (c.pm_y_dot == signed(row, 11))
-        & (c.d_ut1 == signed(row, 12))
-        & (c.d_ut1_dot == signed(row, 13))
-        & (c.alpha0 == signed(row, 14))
-        & (c.alpha1 == signed(row, 15))
-        & (c.alpha2 == signed(row, 16))
-        & (c.alpha3 == signed(row, 17))
-        & (c.beta0 == signed(row, 18))
-        & (c.beta1 == signed(row, 19))
-        & (c.beta2 == signed(row, 20))
-        & (c.beta3 == signed(row, 21))
-        & (c.spare == plain(row, 22))
-        & (c.prn == plain(row, 23))
-}
-
-fn same_null(c: Null, row: &[u8]) -> bool {
-    let head = c.head;
-    let slot = c.slot;
-    same_head(head, row) & same_slot(slot, row) & (c.prn == plain(row, 35))
-}
-
-fn same_unread(c: Unread, row: &[u8]) -> bool {
-    let head = c.head;
-    let slot = c.slot;
-    same_head(head, row)
-        & same_slot(slot, row)
-        & (c.id == plain(row, 6))
-        & (c.prn == plain(row, 35))
-}
-
-// Whether a record is that of a row.
-pub fn same_record(record: Record, row: &[u8]) -> bool {
-    let case = case(row);
+// The case of a record, as `case` counts them.
+fn case_of(record: Record) -> u64 {
     match record {
-        Record::Subframe1(c) => (case == 1) & same_subframe1(c, row),
-        Record::Subframe2(c) => (case == 2) & same_subframe2(c, row),
-        Record::IonoGrid(c) => (case == 3) & same_iono_grid(c, row),
-        Record::Almanac(c) => (case == 4) & same_almanac(c, row),
-        Record::GpsTime(c) => (case == 5) & same_time_offsets(c, row),
-        Record::EarthIono(c) => (case == 6) & same_earth_iono(c, row),
-        Record::GnssTime(c) => (case == 7) & same_time_offsets(c, row),
-        Record::Null(c) => (case == 8) & same_null(c, row),
-        Record::Unread(c) => (case == 9) & same_unread(c, row),
+        Record::Subframe1(_) => 1,
+        Record::Subframe2(_) => 2,
+        Record::IonoGrid(_) => 3,
+        Record::Almanac(_) => 4,
+        Record::GpsTime(_) => 5,
+        Record::EarthIono(_) => 6,
+        Record::GnssTime(_) => 7,
+        Record::Null(_) => 8,
+        Record::Unread(_) => 9,
     }
+}
+
+fn same_numbers(numbers: [u64; 42], row: &[u8]) -> bool {
+    let mut same = true;
+    for k in 0..42u8 {
+        same = same & (numbers[k as usize] == number(row, k));
+    }
+    same
+}
+
+// Whether a record is that of a row: its case, and the numbers of its fields in the table's order. That each name stands at its place in that order
+// the rows of `write` tell, whose records are built by name.
+pub fn same_record(record: Record, beside: Beside, row: &[u8]) -> bool {
+    (case_of(record) == case(row)) & same_numbers(message::table_numbers(record, beside), row)
 }
 
 fn same_bits(bits: [u8; 28], row: &[u8]) -> bool {

@@ -12,4 +12,4 @@ returns c =
     product _ (s .args .raw) _ (toZ-ofZ w32 (s .args .raw) (s .fits .raw)) (narrow (s .args .raw) (s .fits .raw))
 
 pub signed-spec : {M : Type 1} → statement M
-signed-spec = tie.close (tie.spec (λ c. search needs) returns)
+signed-spec = tie.close (tie.spec (λ c. search needs) (λ c. search needs) (λ c. search needs) returns)

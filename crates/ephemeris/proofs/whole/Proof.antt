@@ -12,4 +12,4 @@ returns : tie.Need-returns
 returns c = let s = c .before in product _ (pos (s .args .raw)) _ refl (lt-of-lt-of-le (s .fits .raw .fits) (lit≤ tt))
 
 pub whole-spec : {M : Type 1} → statement M
-whole-spec = tie.close (tie.spec (λ c. search needs) returns)
+whole-spec = tie.close (tie.spec (λ c. search needs) (λ c. search needs) (λ c. search needs) returns)

@@ -18,15 +18,15 @@ use Rattle.message.proofs.parse.Tie as tie
 returns : tie.Need-returns
 unfolding fromBody patterns valueAt head messageId
 returns c =
-    let first = c .before .before .before .before in
+    let first = c .before .before .before in
     let body = first .before .args .body .now in
     let s : at (first .read .result) 4 ≡ subframeId body = ap (λ (l : List ℕ). at l 4) (first .read .ensures) in
     let m : at (first .read .result) 6 ≡ records.messageId body = ap (λ (l : List ℕ). at l 6) (first .read .ensures) in
     let s′ = at (first .read .result) 4 in
     let m′ = at (first .read .result) 6 in
-    let a = c .before .before .read2 .ensures ∙ ap (λ (l : Layout). patterns (values (rowsOf l) body)) (c .before .before .before .layout-by .ensures) in
+    let a = c .before .read2 .ensures ∙ ap (λ (l : Layout). patterns (values (rowsOf l) body)) (c .before .before .layout-by .ensures) in
     c .entry .ensures
-    ∙ entry body _ _ (c .before .raw-of .ensures) s′ m′ a
+    ∙ entry body _ s′ m′ a
     ∙ ap₂ (λ (s m : ℕ). entryBy s m (viewOf (values (rowsOf (layoutBy s m)) body))) s m
 
 pub parse-spec : {M : Type 1} → statement M
@@ -36,7 +36,6 @@ parse-spec =
     (λ c κs. search needs)
     (λ c. search needs)
     (λ c. search needs)
-    (λ c κs. search needs)
     (λ c κs. search needs)
     (λ c κs. search needs)
     (λ c κs. search needs)

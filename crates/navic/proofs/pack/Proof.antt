@@ -4,7 +4,7 @@ use Prim.Native.Nat.{_*_, _-_, _≤_}
 use mathlib.Core.Path.{refl}
 use native.Mathlib.Omega.{arith}
 use Rattle.bits.proofs.Fill.{Put, put-none, put-more, put-all}
-use Rattle.navic.specs.Family.{packed}
+use Rattle.demands.specs.Family.{packed}
 use Rattle.navic.proofs.Packing.{spelt}
 use Rattle.navic.proofs.pack.Statement.{statement}
 use Rattle.navic.proofs.pack.Tie as tie

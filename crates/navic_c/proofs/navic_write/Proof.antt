@@ -6,7 +6,7 @@ use borrow.Author.Needs.{needs}
 use lib.ListN.{length-map}
 use mir.Syntax.{w64}
 use mir.Val.{toZ}
-use Rattle.navic.specs.Family.{symbolsOf}
+use Rattle.demands.specs.Family.{symbolsOf}
 use Rattle.navic_c.specs.Numbers.{refusal, beside, numbered}
 use Rattle.navic_c.specs.Calls.{int64}
 use Rattle.navic_c.proofs.Answered.{too-little, other-count, refuses, writes}

@@ -12,13 +12,13 @@ use Rattle.message.proofs.records.data_of.Statement.{statement}
 use Rattle.message.proofs.records.data_of.Tie as tie
 
 abbrev bytes : List ℕ → ℕ → ℕ
-bytes plain k = pick (eqb k 27) (at plain 34 % 2 ^ 4 * 16) (at plain (7 + k) % 2 ^ 8)
+bytes t k = pick (eqb k 27) (at t 34 % 2 ^ 4 * 16) (at t (7 + k) % 2 ^ 8)
 
 abbrev Inv-loop : tie.InvT-loop
-Inv-loop plain bits₀ i₀ bits i = Filled 0 (bytes plain) 28 i bits × (i ≤ 27)
+Inv-loop t bits₀ i₀ bits i = Filled 0 (bytes t) 28 i bits × (i ≤ 27)
 
 abbrev μ-loop : tie.MeasureT-loop
-μ-loop plain bits₀ i₀ bits i = 27 - i
+μ-loop t bits₀ i₀ bits i = 27 - i
 
 loop-holds : tie.Need-loop-holds Inv-loop μ-loop
 loop-holds c = (filled-none 0 _ 28 _ refl, omega arith)

@@ -9,11 +9,11 @@ use Rattle.message.proofs.records.pairs_of.Statement.{statement}
 use Rattle.message.proofs.records.pairs_of.Tie as tie
 
 abbrev Inv-loop : tie.InvT-loop
-Inv-loop plain givei₀ givd₀ i₀ givei givd i =
-    Filled 0 (λ k. at plain (9 + 2 * k) % 2 ^ 4) 15 i givei × Filled 0 (λ k. at plain (10 + 2 * k) % 2 ^ 16) 15 i givd
+Inv-loop t givei₀ givd₀ i₀ givei givd i =
+    Filled 0 (λ k. at t (9 + 2 * k) % 2 ^ 4) 15 i givei × Filled 0 (λ k. at t (10 + 2 * k) % 2 ^ 16) 15 i givd
 
 abbrev μ-loop : tie.MeasureT-loop
-μ-loop plain givei₀ givd₀ i₀ givei givd i = 15 - i
+μ-loop t givei₀ givd₀ i₀ givei givd i = 15 - i
 
 loop-holds : tie.Need-loop-holds Inv-loop μ-loop
 loop-holds c = (filled-none 0 _ 15 _ refl, filled-none 0 _ 15 _ refl)

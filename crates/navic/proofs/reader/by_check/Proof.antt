@@ -4,7 +4,7 @@ use mathlib.Core.Path.{_≡_, sym, ap, _∙_}
 use mathlib.Core.Bool.{Bool}
 use Rattle.message.specs.declared.Entry.{Entry}
 use Rattle.message.specs.Records.{fromBody}
-use Rattle.navic.specs.Family.{byTime, byCheck}
+use Rattle.demands.specs.Family.{byTime, byCheck}
 use Rattle.navic.specs.Navic.{family, readOf}
 use Rattle.navic.proofs.Answers.{idle-word, bad-check}
 use borrow.Author.Needs.{needs}

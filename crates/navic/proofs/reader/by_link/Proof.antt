@@ -2,7 +2,7 @@
 -- Assumes nothing.
 use mathlib.Core.Path.{_≡_, sym, ap, _∙_}
 use Rattle.link.specs.declared.Answer.{Answer}
-use Rattle.navic.specs.Family.{byLink}
+use Rattle.demands.specs.Family.{byLink}
 use Rattle.navic.specs.Navic.{family, readOf}
 use borrow.Author.Needs.{needs}
 use Rattle.navic.proofs.reader.by_link.Statement.{statement}

@@ -5,7 +5,7 @@ use mathlib.Core.List.{List}
 use Prim.Native.Nat.{ℕ}
 use Rattle.crc24q.specs.Check.{withCheck}
 use Rattle.link.specs.Link.{sentOf}
-use Rattle.navic.specs.Family.{symbolsOf}
+use Rattle.demands.specs.Family.{symbolsOf}
 use borrow.Author.Needs.{needs}
 use Rattle.navic.proofs.writer.symbols.Statement.{statement}
 use Rattle.navic.proofs.writer.symbols.Tie as tie

@@ -5,7 +5,7 @@ use Prim.Native.Nat.{ℕ}
 use borrow.Author.Needs.{needs}
 use Rattle.crc24q.specs.Check.{withCheck}
 use Rattle.link.specs.Link.{sentOf}
-use Rattle.navic.specs.Family.{symbolsOf}
+use Rattle.demands.specs.Family.{symbolsOf}
 use Rattle.navic_c.proofs.given.symbols.Statement.{statement}
 use Rattle.navic_c.proofs.given.symbols.Tie as tie
 

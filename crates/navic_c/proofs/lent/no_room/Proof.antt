@@ -2,7 +2,7 @@
 use mathlib.Core.Path.{sym, ap, _∙_}
 use native.Mathlib.Omega.{arith}
 use borrow.Author.Needs.{needs}
-use Rattle.navic.proofs.Ordered.{not-600, little-room}
+use Rattle.demands.proofs.Ordered.{not-600, little-room}
 use Rattle.navic_c.specs.Numbers.{numbered}
 use Rattle.navic_c.specs.Calls.{lineOfNumbers}
 use Rattle.navic_c.proofs.lent.no_room.Statement.{statement}

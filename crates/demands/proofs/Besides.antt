@@ -15,8 +15,8 @@ use Rattle.link.specs.Link.{wordOf, correctedOf, receiveOf}
 use Rattle.link.specs.Promise.{Taken}
 use Rattle.link.proofs.Taken as taken
 use Rattle.link.proofs.Taken.{Outcome, outcome, nearest-taken}
-use Rattle.navic.specs.Family.{Family, Reading, done, refused, notOf600, littleRoom, badSymbol, noSync, noWord, isIdle, badCheck, badTime, readingOf, byTime, byCheck}
-use Rattle.navic.proofs.Ordered.{not-600, little-room, by-link, by-word}
+use Rattle.demands.specs.Family.{Family, Reading, done, refused, notOf600, littleRoom, badSymbol, noSync, noWord, isIdle, badCheck, badTime, readingOf, byTime, byCheck}
+use Rattle.demands.proofs.Ordered.{not-600, little-room, by-link, by-word}
 
 module _ (f : Family) (s : List ℕ) where
   -- the word that was taken

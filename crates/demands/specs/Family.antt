@@ -16,7 +16,7 @@ use Rattle.link.specs.declared.Answer.the-variants as link
 use Rattle.link.specs.declared.Received.{Received}
 use Rattle.link.specs.Link.{sentOf, receiveOf}
 use Rattle.link.specs.Promise.{NoWordEnds}
-use Rattle.navic.specs.Refusals.{Refusal, Given}
+use Rattle.demands.specs.Refusals.{Refusal, Given}
 
 -- a body: 262 bits
 pub record IsBody (body : List ℕ) : Type 0 where

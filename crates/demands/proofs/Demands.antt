@@ -23,8 +23,8 @@ use Rattle.link.specs.Promise.{IsWord, alteredCoded, Altered, Taken}
 use Rattle.link.proofs.Recovered.{sent-long, recovered, unaltered}
 use Rattle.link.proofs.Taken as taken
 use Rattle.link.proofs.Taken.{Outcome, outcome, nearest-taken}
-use Rattle.navic.specs.Family.{IsBody, Family, Lawful, Reading, Why, done, refused, badTime, byCheck, byTime, byLink, readingOf, symbolsOf, writingOf, writeInto}
-use Rattle.navic.proofs.Ordered.{by-link, by-word, not-600, little-room}
+use Rattle.demands.specs.Family.{IsBody, Family, Lawful, Reading, Why, done, refused, badTime, byCheck, byTime, byLink, readingOf, symbolsOf, writingOf, writeInto}
+use Rattle.demands.proofs.Ordered.{by-link, by-word, not-600, little-room}
 
 module _ (f : Family) (l : Lawful f) where
   -- the word of an entry that the writer takes

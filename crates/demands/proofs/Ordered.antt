@@ -23,8 +23,8 @@ use Rattle.link.specs.Link.{wordOf, correctedOf, receiveOf}
 use Rattle.link.specs.Promise.{polarityOf}
 use Rattle.link.proofs.Taken as taken
 use Rattle.link.proofs.Taken.{Outcome, outcome, some-word-ends}
-use Rattle.navic.specs.Refusals.{Refusal, Given, none, here, later}
-use Rattle.navic.specs.Family.{Family, Lawful, Reading, done, refused, notOf600, littleRoom, badSymbol, noSync, noWord, isIdle, badCheck, badTime, SymbolAbove, readerConditions, writerConditions, readingNumber, byLink, byCheck, byTime, readingOf, writingOf}
+use Rattle.demands.specs.Refusals.{Refusal, Given, none, here, later}
+use Rattle.demands.specs.Family.{Family, Lawful, Reading, done, refused, notOf600, littleRoom, badSymbol, noSync, noWord, isIdle, badCheck, badTime, SymbolAbove, readerConditions, writerConditions, readingNumber, byLink, byCheck, byTime, readingOf, writingOf}
 
 -- one number only
 pub given-one : {rs : List Refusal} {n m : ℕ} → Given rs n → Given rs m → n ≡ m

@@ -1,0 +1,3 @@
+pub mod Besides
+pub mod Demands
+pub mod Ordered
