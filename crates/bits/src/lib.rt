@@ -1,4 +1,6 @@
 // Bits and numbers, as the other crates use them. Here a byte counts as a bit by its lowest one, so that each call takes any bytes.
+#![tactic(auto)]
+
 ghost use Rattle.std.specs.Prelude.{◌≡◌, ◌%◌};
 ghost use Rattle.bits.specs.Lists.{at};
 

@@ -1,4 +1,6 @@
 // The encoder.
+#![tactic(auto)]
+
 ghost use Rattle.std.specs.Prelude.{◌≡◌, ◌+◌, ◌*◌, ◌%◌, ◌≤◌, length};
 ghost use Rattle.bits.specs.Lists.{at};
 ghost use Rattle.convolution.specs.Code.{coded_form};

@@ -1,4 +1,6 @@
 // The check CRC-24Q: the remainder of a body's bits, and the word of a body with its check behind it. A byte counts as a bit by its lowest one.
+#![tactic(auto)]
+
 ghost use Rattle.std.specs.Prelude.{◌≡◌, ◌++◌, ◌*◌, ◌%◌, ◌^◌, ◌<◌, length};
 ghost use Rattle.bits.specs.Lists.{at};
 ghost use Rattle.bits.specs.Numbers.{bits_of};

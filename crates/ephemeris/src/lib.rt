@@ -1,4 +1,6 @@
 // Subframes 1 and 2 paired into one ephemeris.
+#![tactic(auto)]
+
 ghost use Rattle.std.specs.Prelude.{◌≡◌, false, ◌<◌, ltb, pos, get_or};
 ghost use Rattle.std.specs.Float.{fin, nan};
 ghost use Rattle.std.specs.Float.Ieee.{minus};

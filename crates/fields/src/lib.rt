@@ -1,4 +1,6 @@
 // The one table of fields, and reading and writing by it.
+#![tactic(auto)]
+
 ghost use Rattle.std.specs.Prelude.{◌≡◌, ◌+◌, ◌-◌, ◌%◌, ◌^◌, ◌<◌, ◌≤◌, length, drop};
 ghost use Rattle.std.proofs.Math.Seq.{paste};
 ghost use Rattle.std.specs.Int.{w32, w64};
@@ -10,11 +12,11 @@ ghost use Rattle.fields.specs.Fields.{twos, value_at, values};
 ghost use Rattle.fields.specs.Patterns.{padded, stored_head, stored_subframes, stored_messages, pattern, patterns, packed, fits, pattern_fault};
 
 // A field: its first bit, from 1, its width, whether it is two's complement, and the exponent of its scale.
-#[derive(Drop)]
+#[derive(Clone, Copy)]
 pub struct Row(pub usize, pub usize, pub bool, pub i32);
 
 // Which rows a body has.
-#[derive(Drop)]
+#[derive(Clone, Copy)]
 pub enum Layout {
     Subframe1,
     Subframe2,

@@ -1,5 +1,7 @@
 // A subframe's 600 symbols: the sync, turning over, and the interleaver, a grid of eight rows of seventy-three symbols.
 // Levels go from 0 to `top`; at `top` 1 they are symbols.
+#![tactic(auto)]
+
 ghost use Rattle.std.specs.Prelude.{◌≡◌, ◌++◌, ◌-◌, max, length, drop};
 ghost use Rattle.bits.specs.Lists.{pick, part, at_most};
 ghost use Rattle.framing.specs.Sync.{eb90, bit_at, judged, sync_of};

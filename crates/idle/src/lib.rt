@@ -1,10 +1,12 @@
 // The idle patterns: words that a satellite sends where it has nothing to say.
+#![tactic(auto)]
+
 ghost use Rattle.std.specs.Prelude.{◌≡◌, ◌+◌, ◌≤◌, length};
 ghost use Rattle.bits.specs.Lists.{part};
 ghost use Rattle.idle.specs.Idle.{alternates, pattern_of, idle_of, row_of};
 
 // A subframe's idle pattern: subframe ID, alert flag, first bit, last bit, and whether the check is sent spoiled.
-#[derive(Drop)]
+#[derive(Clone, Copy)]
 pub struct Row(pub u8, pub u8, pub usize, pub usize, pub bool);
 
 const ROWS: [Row; 4] = [

@@ -1,4 +1,6 @@
 // The link: from 600 received symbols to the nearest word, and from a word to 600 symbols.
+#![tactic(auto)]
+
 ghost use Rattle.std.specs.Prelude.{◌≡◌};
 ghost use Rattle.bits.specs.Lists.{Bits};
 ghost use Rattle.framing.specs.Frame.{coded_of};

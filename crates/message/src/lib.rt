@@ -1,4 +1,6 @@
 // The typed records of the message, and the way between a record and a body of 262 bits.
+#![tactic(auto)]
+
 ghost use Rattle.std.specs.Prelude.{◌≡◌};
 ghost use Rattle.message.specs.Numbers.{slot_id};
 ghost use Rattle.message.specs.Records.{from_body, to_body, fault_of, id_refused, id_taken, head_in, id_of, subframe_of, message_id_of, layout_of, layout_by, message_layout, numbers_of};

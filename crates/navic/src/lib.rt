@@ -1,4 +1,6 @@
 // The reader and the writer.
+#![tactic(auto)]
+
 ghost use Rattle.std.specs.Prelude.{◌≡◌, [], ◌∷◌, ◌++◌, ◌+◌, ◌≤◌, length, take, drop};
 ghost use Rattle.bits.specs.Lists.{part, pick};
 ghost use Rattle.bits.specs.Numbers.{number};

@@ -1,5 +1,7 @@
 // The calls for C and for Rust, over numbers and slices. A record is 42 numbers of C's int64_t in the table's order, what stands beside it among
 // them, and 0 behind them; here they are the same 64 bits as u64.
+#![tactic(auto)]
+
 ghost use Rattle.std.specs.Prelude.{◌≡◌, length};
 ghost use Rattle.demands.specs.Family.{write_into};
 ghost use Rattle.recording.specs.Walk.{found_from};

@@ -1,4 +1,6 @@
 // Reads the symbols of one subframe from standard input and prints one line: refusal, corrected count, polarity, subframe, TOWC, message ID.
+#![tactic(auto)]
+
 use libc::{STDIN_FILENO, STDOUT_FILENO};
 
 // Takes the next piece of the input; answers whether there was one.

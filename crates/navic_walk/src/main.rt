@@ -1,5 +1,7 @@
 // Reads a recording of symbols from standard input and prints a line for each window that the walk finds: its place and the six numbers that
 // navic_read prints for its 600 symbols; and then the walk's closing number.
+#![tactic(auto)]
+
 ghost use Rattle.std.specs.Prelude.{◌≡◌, length};
 ghost use Rattle.navic.specs.Navic.{answer, line_of};
 ghost use Rattle.navic_walk.specs.Steps.{step_of, closing_of};

@@ -1,4 +1,6 @@
 // The nearest word, by Viterbi's algorithm: 32 butterflies a step, metrics of a byte, lowered before they would not fit.
+#![tactic(auto)]
+
 ghost use Rattle.std.specs.Prelude.{◌≡◌, List, ℕ, ◌+◌, ◌-◌, ◌*◌, ◌<◌, ◌≤◌, min, length};
 ghost use Rattle.bits.proofs.Fill.{Put};
 ghost use Rattle.bits.specs.Lists.{at};

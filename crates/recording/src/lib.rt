@@ -1,4 +1,6 @@
 // The walk over a recording of symbols.
+#![tactic(auto)]
+
 ghost use Rattle.std.specs.Prelude.{◌≡◌, ◌≤◌, length};
 ghost use Rattle.recording.specs.Walk.{found_from, PartOf, HandedOn};
 

@@ -1,4 +1,6 @@
 // Runs the outside vectors through the public calls, and prints for each file the rows that fail or are skipped and how many there were.
+#![tactic(auto)]
+
 use tally::{Outcome, Tally};
 
 mod input;

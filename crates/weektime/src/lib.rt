@@ -1,10 +1,12 @@
 // The three quantities of time: the count of twelve-second steps, the second of the week and the week number. Each has a type of its own with a
 // private number, so that a call that takes one of them rejects the other two when the program is built.
+#![tactic(auto)]
+
 ghost use Rattle.std.specs.Prelude.{◌≡◌};
 ghost use Rattle.weektime.specs.Time.{towc_refused, began_of, count_of};
 
 // A count of twelve-second steps (TOWC). It holds any number.
-#[derive(Drop)]
+#[derive(Clone, Copy)]
 pub struct Towc(u32);
 
 impl Towc {
@@ -22,7 +24,7 @@ impl Towc {
 }
 
 // A second of the week.
-#[derive(Drop)]
+#[derive(Clone, Copy)]
 pub struct SecondOfWeek(u32);
 
 impl SecondOfWeek {
@@ -40,7 +42,7 @@ impl SecondOfWeek {
 }
 
 // A week number.
-#[derive(Drop)]
+#[derive(Clone, Copy)]
 pub struct Week(u32);
 
 impl Week {
@@ -66,7 +68,7 @@ pub fn refused(t: Towc) -> bool
 }
 
 // The second at which the subframe of a count began.
-#[derive(Drop)]
+#[derive(Clone, Copy)]
 pub enum Began {
     At(SecondOfWeek),
     Refused,
@@ -83,7 +85,7 @@ pub fn began_at(t: Towc) -> Began
 }
 
 // The count of the subframe in which a second lies.
-#[derive(Drop)]
+#[derive(Clone, Copy)]
 pub enum Counted {
     In(Towc),
     Refused,
