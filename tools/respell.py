@@ -22,6 +22,9 @@ CLAUSE = re.compile(r"(?:requires|ensures)\s*\*?\s*(?:\w+\s*)?\{|ghost\s+use\b")
 # where the rule alone reads badly, or gives the name of a field of src/
 TAKEN = {"notOf600": "not_of_600", "turnedOver": "turned_levels"}
 
+# the fields of records that have a dash
+FIELDS = set("a-is b-is c-is d-is e-is f-is ever-after in-time own-id sound-first sound-second".split())
+
 
 def files():
     for pattern in ("crates/*/specs/**/*.antt", "crates/*/proofs/**/*.antt"):
@@ -96,7 +99,7 @@ def respell(path, text, says, camel, dashed):
         seen |= {x.strip().split(" as ")[0].strip() for x in m.group(2).split(",")}
     for m in ALIAS.finditer(text):
         aliases.add(m.group(2))
-    fields = set().union(*says.values()) if says else set()
+    fields = FIELDS & set(dashed)
     local.update({n: dashed[n] for n in seen if n in dashed})
 
     def word(m):
@@ -106,7 +109,9 @@ def respell(path, text, says, camel, dashed):
             before = re.search(r"([^\s(){},;.\[\]|]+)\.$", head)
             if before and before.group(1) in aliases and w in dashed:
                 return dashed[w]
-            return camel.get(w, w) if w in camel else w
+            return camel.get(w, dashed[w] if w in fields else w)
+        if w in fields and re.match(r" =", text[m.end():m.end() + 2]):
+            return dashed[w]
         bare = w.rstrip(":'`")
         if w in local:
             return local[w]

@@ -75,8 +75,8 @@ module _ {w old new : List ℕ} {t a b c d e f i : ℕ} (h : i < length w + 6) (
       let x : List ℕ = past w i in
       let g = rw (past_more w i h) at (encode_at (w ++ six_zeros) six_zeros i (omega (arith, length-append w six_zeros))) in
       let k = v.window in (
-        rw (is, k.a-is, k.b-is, k.c-is, k.f-is) (odd_sum (ago w i) (ago x 0) (ago x 1) (ago x 2) (ago x 5) ∙ sym g.0),
-        rw (is, k.b-is, k.c-is, k.e-is, k.f-is) (odd_sum (ago w i) (ago x 1) (ago x 2) (ago x 4) (ago x 5) ∙ sym g.1),
+        rw (is, k.a_is, k.b_is, k.c_is, k.f_is) (odd_sum (ago w i) (ago x 0) (ago x 1) (ago x 2) (ago x 5) ∙ sym g.0),
+        rw (is, k.b_is, k.c_is, k.e_is, k.f_is) (odd_sum (ago w i) (ago x 1) (ago x 2) (ago x 4) (ago x 5) ∙ sym g.1),
       )
 
   pub sent_more : {x y : ℕ} → x ≡ (t + a + b + c + f) % 2 → y ≡ (t + b + c + e + f) % 2 → length old ≡ 2 * (length w + 6)
@@ -87,7 +87,7 @@ module _ {w old new : List ℕ} {t a b c d e f i : ℕ} (h : i < length w + 6) (
         upto = omega arith;
         window =
             rw (add-one i, past_more w i h)
-            (record { a_is = is; b_is = k.a-is; c_is = k.b-is; d_is = k.c-is; e_is = k.d-is; f_is = k.e-is });
+            (record { a_is = is; b_is = k.a_is; c_is = k.b_is; d_is = k.c_is; e_is = k.d_is; f_is = k.e_is });
         put = put_two (ago (coded_form w)) i x y old new (omega arith) (p ∙ symbols.0) (q ∙ symbols.1) v.put;
       }
 

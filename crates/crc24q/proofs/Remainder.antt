@@ -189,7 +189,7 @@ leaves_step {v} {r} b h l = leaves_reduce (r * 2 + b % 2) (omega arith) (leaves_
 divided : {v r : ℕ} (x : List ℕ) → r < 2 ^ 24 → Leaves v r → Leaves (v * 2 ^ length x + number x) (divide r x)
 unfolding number divide
 divided {v} [] h l = let e : v * 1 + 0 ≡ v = omega arith in rw e l
-divided {v} {r} (b ∷ x) h l = rw (bring v (b % 2) (length x) (number x)) (divided x (step_lt r b h) (leaves_step b h l))
+divided {v} {r} (b ∷ x) h l = rw (bring v (b % 2) (length x) (number x)) (divided {v = v * 2 + b % 2} {r = step r b} x (step_lt r b h) (leaves_step b h l))
 
 -- ---- the check is the remainder
 pub check_leaves : (body : List ℕ) → Leaves (number body * 2 ^ 24) (check_of body)

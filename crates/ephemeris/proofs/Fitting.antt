@@ -44,15 +44,15 @@ fit_only a b e =
       first = refl;
       second = refl;
       together = eqb-true a.toc b.toe k.0;
-      sound-first = sound_only (case.Subframe1 a) l.0;
-      sound-second = sound_only (case.Subframe2 b) l.1;
+      sound_first = sound_only (case.Subframe1 a) l.0;
+      sound_second = sound_only (case.Subframe2 b) l.1;
     }
 
 pub pair_if : (one two : Record) (a : Subframe1) (b : Subframe2) → Pair one two a b → paired? one two ≡ halves a b
 pair_if one two a b p =
     sym
     (both_halves p.first p.second
-    (fit_if a b p.together (rw p.first at p.sound-first) (rw p.second at p.sound-second)))
+    (fit_if a b p.together (rw p.first at p.sound_first) (rw p.second at p.sound_second)))
 
 pub pair_only : (one two : Record) (a : Subframe1) (b : Subframe2) → paired? one two ≡ halves a b → Pair one two a b
 pair_only (case.Subframe1 c) (case.Subframe2 d) a b e = go (fit c d) refl e

@@ -32,8 +32,8 @@ idle_halves_pair a b d c p q u v =
       first = refl;
       second = refl;
       together = idle_toc a i ∙ sym (idle_toe b j);
-      sound-first = record { early = p; late = q; held = i.held };
-      sound-second = record { early = u; late = v; held = j.held };
+      sound_first = record { early = p; late = q; held = i.held };
+      sound_second = record { early = u; late = v; held = j.held };
     }))
 
 -- there are such halves: `idle_pairs` names one of each

@@ -67,8 +67,8 @@ small_of : (one two : Record) (a : Subframe1) (b : Subframe2) → Pair one two a
 unfolding terms_of head subframe1 subframe2
 small_of one two a b p =
     small_append (terms_in (case.Subframe1 a)) (terms_in (case.Subframe2 b))
-    (small_in (case.Subframe1 a) tt (rw p.first at p.sound-first.held))
-    (small_in (case.Subframe2 b) tt (rw p.second at p.sound-second.held))
+    (small_in (case.Subframe1 a) tt (rw p.first at p.sound_first.held))
+    (small_in (case.Subframe2 b) tt (rw p.second at p.sound_second.held))
 
 each_of : (one two : Record) (a : Subframe1) (b : Subframe2) → Pair one two a b → Each (numbers_in (ephemeris_of a b)) (terms_of a b)
 each_of one two a b p =

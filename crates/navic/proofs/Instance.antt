@@ -70,8 +70,8 @@ lawful =
     record {
       ordered = ordered;
       body = λ e z. record { bits = body_bits e.«record» e.beside; long = body_long e.«record» e.beside };
-      back = λ e z. let s = sound e z in record_back e.«record» e.beside s.own-id s.fits;
+      back = λ e z. let s = sound e z in record_back e.«record» e.beside s.own_id s.fits;
       again = λ b is. body_back b is.long is.bits;
-      timely = λ e z. (sound e z).in-time;
+      timely = λ e z. (sound e z).in_time;
       taken = λ b is timely. let a = read_accepted b in accepted (from_body b) a.0 timely a.1;
     }

@@ -69,7 +69,7 @@ module _ (zs : List ℤ) where
 
   accepted : Sound → refusal zs ≡ 0
   unfolding refusal
-  accepted s = rw (eq-eqb (length zs) 42 s.long, s.own-id, s.in-time, eq-eqb (fault_from zs) 0 s.fits) refl
+  accepted s = rw (eq-eqb (length zs) 42 s.long, s.own_id, s.in_time, eq-eqb (fault_from zs) 0 s.fits) refl
 
 -- ---- a body's numbers
 abbrev own : List ℕ → Layout
@@ -174,6 +174,6 @@ lawful =
       body = λ zs z. body_is zs (sound zs z);
       back = λ zs z. numbers_back zs (sound zs z);
       again = body_again;
-      timely = λ zs z. (sound zs z).in-time;
+      timely = λ zs z. (sound zs z).in_time;
       taken = λ b is timely. accepted (numbers_of_body b) (record { long = numbers_42 b; own_id = id_below b; in_time = timely; fits = none_at_fault b });
     }

@@ -39,7 +39,7 @@ gives_more n p ws steps e g = record { each = each; ever_after = ever_after }
 
     ever_after : (k : ℕ) → suc (length ws) ≤ k → steps k ≡ none n
     ever_after zero i = absurd (omega arith)
-    ever_after (suc k) i = g.ever-after k (omega arith)
+    ever_after (suc k) i = g.ever_after k (omega arith)
 
 module _ (l : List ℕ) where
   -- the first place, within the recording or at its end
@@ -160,5 +160,5 @@ module _ (n : ℕ) (w : ℕ → Walker) (r : ℕ → Handed) (new : (w 0).place 
       let g = walked whole short in
       let c = walker_walked k i in (
         λ h. (c.0 ∙ g.each k h, subst (λ (f : Found). PartOf (w 0).recording f (r k).symbols) (g.each k h) c.1),
-        λ h. (c.0 ∙ g.ever-after k h, subst (λ (f : Found). PartOf (w 0).recording f (r k).symbols) (g.ever-after k h) c.1),
+        λ h. (c.0 ∙ g.ever_after k h, subst (λ (f : Found). PartOf (w 0).recording f (r k).symbols) (g.ever_after k h) c.1),
       )

@@ -7,28 +7,28 @@ use Rattle.fields.proofs.count.Goals as goal
 
 pub returns-in-Subframe1 : goal.returns-in-Subframe1
 unfolding head subframe1
-returns-in-Subframe1 c = sym (ap (λ (l : Layout). length (rows_of l)) c.enum_told-1.given.1)
+returns-in-Subframe1 c = sym (ap (λ (l : Layout). length (rows_of l)) c.in-Subframe1.is)
 
 pub returns-in-Subframe2 : goal.returns-in-Subframe2
 unfolding head subframe2
-returns-in-Subframe2 c = sym (ap (λ (l : Layout). length (rows_of l)) c.enum_told-in-Subframe2-1.given.1)
+returns-in-Subframe2 c = sym (ap (λ (l : Layout). length (rows_of l)) c.in-Subframe2.is)
 
 pub returns-in-IonoGrid : goal.returns-in-IonoGrid
 unfolding head iono_grid
-returns-in-IonoGrid c = sym (ap (λ (l : Layout). length (rows_of l)) c.enum_told-in-IonoGrid-1.given.1)
+returns-in-IonoGrid c = sym (ap (λ (l : Layout). length (rows_of l)) c.in-IonoGrid.is)
 
 pub returns-in-Almanac : goal.returns-in-Almanac
 unfolding head almanac
-returns-in-Almanac c = sym (ap (λ (l : Layout). length (rows_of l)) c.enum_told-in-Almanac-1.given.1)
+returns-in-Almanac c = sym (ap (λ (l : Layout). length (rows_of l)) c.in-Almanac.is)
 
 pub returns-in-TimeOffsets : goal.returns-in-TimeOffsets
 unfolding head time_offsets
-returns-in-TimeOffsets c = sym (ap (λ (l : Layout). length (rows_of l)) c.enum_told-in-TimeOffsets-1.given.1)
+returns-in-TimeOffsets c = sym (ap (λ (l : Layout). length (rows_of l)) c.in-TimeOffsets.is)
 
 pub returns-in-EarthIono : goal.returns-in-EarthIono
 unfolding head earth_iono
-returns-in-EarthIono c = sym (ap (λ (l : Layout). length (rows_of l)) c.enum_told-in-EarthIono-1.given.1)
+returns-in-EarthIono c = sym (ap (λ (l : Layout). length (rows_of l)) c.in-EarthIono.is)
 
 pub returns-in-Data : goal.returns-in-Data
 unfolding head data_bytes
-returns-in-Data c = sym (ap (λ (l : Layout). length (rows_of l)) c.enum_told-in-Data-1.given.1)
+returns-in-Data c = sym (ap (λ (l : Layout). length (rows_of l)) c.in-Data.is)

@@ -8,8 +8,9 @@ use Rattle.bits.proofs.Numbers.{number_part}
 use Rattle.bits.specs.Lists.{part}
 use Rattle.bits.specs.Numbers.{number}
 use Rattle.fields.proofs.field.Goals as goal
+use Rattle.fields.proofs.field.Goals.{In-loop-k}
 
-room : (c : goal.In-loop invariant-loop decreases-loop) → c.before.loop.n < 2 ^ 62
+room : (c : In-loop-k) → c.loop-k.n < 2 ^ 62
 room c = let h : c.loop-k.k ≤ 62 = omega arith in lt_of_lt_of_le c.loop-k.invariant.2 (pow_mono h)
 
 pub loop-k-init : goal.loop-k-init
@@ -17,10 +18,10 @@ unfolding number
 loop-k-init c = (omega arith, (cc), omega arith)
 
 pub overflow_mul-n : goal.overflow_mul-n
-overflow_mul-n c = omega (arith, room c)
+overflow_mul-n c = omega (arith, room (goal.at.overflow_mul-n c).In-loop-k)
 
 pub overflow_add-n : goal.overflow_add-n
-overflow_add-n c = omega (arith, room c, c.bit.ensures)
+overflow_add-n c = omega (arith, room (goal.at.overflow_add-n c).In-loop-k, c.bit.ensures)
 
 pub loop-k-preserved : goal.loop-k-preserved
 loop-k-preserved c = let a = c.args in

@@ -1,5 +1,4 @@
 -- The bits' number, by two's complement where the row says so. Assumes nothing.
--- the field's bits, and the number by the sign of the branch
 use mathlib.Core.Bool.{Bool, true, false}
 use mathlib.Core.Path.{◌≡◌, sym, ap, ◌∙◌}
 use Prim.Native.Nat.{ℕ, ◌-◌}
@@ -12,11 +11,13 @@ use Rattle.fields.specs.Fields.{twos, value_of, value_at}
 use Rattle.fields.specs.Patterns.{pattern}
 use Rattle.fields.specs.Table.{first, width}
 use Rattle.fields.proofs.value.Goals as goal
+use Rattle.fields.proofs.value.Goals.{Start}
 
-spelt : goal.Start → ℕ
+-- the field's bits, and the number by the sign of the branch
+spelt : Start → ℕ
 spelt c = number (part c.args.body.now (first c.args.row - 1) (width c.args.row))
 
-as_value : (c : goal.Start) (s : Bool) → c.args.row.2 ≡ s → value_of s (width c.args.row) (spelt c) ≡ value_at c.args.body.now c.args.row
+as_value : (c : Start) (s : Bool) → c.args.row.2 ≡ s → value_of s (width c.args.row) (spelt c) ≡ value_at c.args.body.now c.args.row
 unfolding spelt value_at
 as_value c s e = ap (λ (t : Bool). value_of t (width c.args.row) (spelt c)) (sym e)
 
@@ -31,8 +32,8 @@ pub returns-then-row : goal.returns-then-row
 unfolding spelt
 returns-then-row c = c.extend.ensures
     ∙ ap (λ (n : ℕ). pattern (twos (width c.args.row) n)) c.field-n.ensures
-    ∙ ap pattern (as_value c true c.if-row.true)
+    ∙ ap pattern (as_value (goal.at.returns-then-row c).Start true c.if-row.true)
 
 pub returns-else-row : goal.returns-else-row
 unfolding spelt
-returns-else-row c = c.field-n.ensures ∙ ap pattern (as_value c false c.if-row.false)
+returns-else-row c = c.field-n.ensures ∙ ap pattern (as_value (goal.at.returns-else-row c).Start false c.if-row.false)
