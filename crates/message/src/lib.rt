@@ -15,7 +15,7 @@ mod sorts;
 mod unused;
 
 // Bits 1 to 30, which every record keeps; the subframe's number is told by the record's case.
-#[derive(Drop)]
+#[derive(Clone, Copy)]
 pub struct Head {
     pub tlm: u32,
     pub towc: Towc,
@@ -25,13 +25,13 @@ pub struct Head {
 }
 
 // Which of subframes 3 and 4 a message was.
-#[derive(Drop)]
+#[derive(Clone, Copy)]
 pub enum Slot {
     Subframe3,
     Subframe4,
 }
 
-#[derive(Drop)]
+#[derive(Clone, Copy)]
 pub struct Subframe1 {
     pub head: Head,
     pub wn: Week,
@@ -56,7 +56,7 @@ pub struct Subframe1 {
     pub spare: u32,
 }
 
-#[derive(Drop)]
+#[derive(Clone, Copy)]
 pub struct Subframe2 {
     pub head: Head,
     pub m0: i32,
@@ -71,7 +71,7 @@ pub struct Subframe2 {
 }
 
 // Message type 5; its fifteen pairs stand beside the record.
-#[derive(Drop)]
+#[derive(Clone, Copy)]
 pub struct IonoGrid {
     pub head: Head,
     pub slot: Slot,
@@ -83,7 +83,7 @@ pub struct IonoGrid {
 }
 
 // Message type 7.
-#[derive(Drop)]
+#[derive(Clone, Copy)]
 pub struct Almanac {
     pub head: Head,
     pub slot: Slot,
@@ -105,7 +105,7 @@ pub struct Almanac {
 }
 
 // Message types 9 and 26, whose fields are the same.
-#[derive(Drop)]
+#[derive(Clone, Copy)]
 pub struct TimeOffsets {
     pub head: Head,
     pub slot: Slot,
@@ -129,7 +129,7 @@ pub struct TimeOffsets {
 }
 
 // Message type 11.
-#[derive(Drop)]
+#[derive(Clone, Copy)]
 pub struct EarthIono {
     pub head: Head,
     pub slot: Slot,
@@ -153,7 +153,7 @@ pub struct EarthIono {
 }
 
 // Message ID 0; its 220 bits stand beside the record.
-#[derive(Drop)]
+#[derive(Clone, Copy)]
 pub struct Null {
     pub head: Head,
     pub slot: Slot,
@@ -161,7 +161,7 @@ pub struct Null {
 }
 
 // Every other message; its 220 bits stand beside the record.
-#[derive(Drop)]
+#[derive(Clone, Copy)]
 pub struct Unread {
     pub head: Head,
     pub slot: Slot,
@@ -170,7 +170,7 @@ pub struct Unread {
 }
 
 // A case for each kind of subframe or message.
-#[derive(Drop)]
+#[derive(Clone, Copy)]
 pub enum Record {
     Subframe1(Subframe1),
     Subframe2(Subframe2),
@@ -184,7 +184,7 @@ pub enum Record {
 }
 
 // What needs an array: 220 bits, first bit highest, the low four bits of the last byte unused; and type 5's pairs. 0 where the case doesn't use it.
-#[derive(Drop)]
+#[derive(Clone, Copy)]
 pub struct Beside {
     pub bits: [u8; 28],
     pub givei: [u8; 15],
@@ -192,14 +192,14 @@ pub struct Beside {
 }
 
 // A record and what stands beside it.
-#[derive(Drop)]
+#[derive(Clone, Copy)]
 pub struct Entry {
     pub record: Record,
     pub beside: Beside,
 }
 
 // A field of a record by its sort, in the table's order; a number beside the record by its place there.
-#[derive(Drop)]
+#[derive(Clone, Copy)]
 enum Field {
     Plain(u32),
     Signed(i32),

@@ -8,7 +8,7 @@ use framing::Polarity;
 
 // What the walk gives from a place: its number, and where the window starts and where the walk then stands.
 #[repr(C)]
-#[derive(Drop)]
+#[derive(Clone, Copy)]
 pub struct Found {
     pub number: u8,
     pub start: usize,
@@ -72,7 +72,7 @@ pub struct Walker<'a> {
 }
 
 // What a walker hands on: the number, where the window starts and where the walk then stands, and the window's symbols as a part of the recording.
-#[derive(Drop)]
+#[derive(Clone, Copy)]
 pub struct Handed<'a> {
     pub number: u8,
     pub start: usize,

@@ -1,0 +1,17 @@
+use mathlib.Core.Path.{◌≡◌}
+use Prim.Native.Nat.{◌+◌}
+use native.Mathlib.Omega.{arith}
+use Rattle.bits.proofs.Fill.{put_none, put_two}
+use Rattle.nearest.proofs.weave.Goals as goal
+
+pub loop-j-init : goal.loop-j-init
+loop-j-init c = (omega arith, λ f w. put_none _ _ _)
+
+pub loop-j-preserved : goal.loop-j-preserved
+loop-j-preserved c = let i = c.loop-j in
+    let z : i.j ≡ 0 + i.j = omega arith in
+    (omega arith, λ f w. put_two _ _ _ _ _ _ (omega arith) (w.evens.here _ _ (omega arith) z) (w.odds.here _ _ (omega arith) z) (i.invariant.1 f w))
+
+pub returns : goal.returns
+returns c = let e : c.loop-j.j ≡ 32 = omega arith in
+    rw e at c.loop-j.invariant.1
