@@ -4,4 +4,4 @@ use Rattle.message.specs.Records.{id_refused}
 use Rattle.message.proofs.id_refused.Goals as goal
 
 pub returns-in-Unread : goal.returns-in-Unread
-returns-in-Unread c = c.id_taken.ensures ∙ sym (ap id_refused c.«record».given.1)
+returns-in-Unread c = c.id_taken.ensures ∙ sym (ap id_refused c.in-Unread.is)

@@ -1,28 +1,28 @@
 -- `message_layout` meets its contract. Assumes nothing.
 use borrow.Author.Tests.{ne_eqb}
+use native.Mathlib.Omega.{arith}
 use Rattle.message.proofs.message_layout.Goals as goal
 
 pub returns-in-5 : goal.returns-in-5
-returns-in-5 c = rw c.in_default.keys1
+returns-in-5 c = rw c.in-5.is
 
 pub returns-in-7 : goal.returns-in-7
-returns-in-7 c = rw c.in_default.keys2
+returns-in-7 c = rw c.in-7.is
 
 pub returns-in-9 : goal.returns-in-9
-returns-in-9 c = rw c.in_default.keys3
+returns-in-9 c = rw c.in-9.is
 
 pub returns-in-11 : goal.returns-in-11
-returns-in-11 c = rw c.in_default.keys4
+returns-in-11 c = rw c.in-11.is
 
 pub returns-in-26 : goal.returns-in-26
-returns-in-26 c = rw c.in_default.keys5
+returns-in-26 c = rw c.in-26.is
 
 pub returns-in_default : goal.returns-in_default
-returns-in_default c = let r = c.in_default.rest in
-    rw (
-      ne_eqb _ 5 r.0.0.0.0.1,
-      ne_eqb _ 7 r.0.0.0.1,
-      ne_eqb _ 9 r.0.0.1,
-      ne_eqb _ 11 r.0.1,
-      ne_eqb _ 26 r.1,
+returns-in_default c = rw (
+      ne_eqb c.args.id 5 (omega arith),
+      ne_eqb c.args.id 7 (omega arith),
+      ne_eqb c.args.id 9 (omega arith),
+      ne_eqb c.args.id 11 (omega arith),
+      ne_eqb c.args.id 26 (omega arith),
     )

@@ -14,7 +14,7 @@ use Rattle.message.specs.Numbers.{number_of}
 use Rattle.message.specs.Raw.{Good}
 use Rattle.message.proofs.Filling.{filled_none, filled_more}
 use Rattle.message.proofs.numbers.lay.Goals as goal
-use Rattle.message.proofs.numbers.lay.Goals.{Joined-i-lt6}
+use Rattle.message.proofs.numbers.lay.Goals.{Joined-i-lt6, then-i-lt6, else-i-lt6}
 
 -- an element of two lists put together, by the length of the first
 fore : {A : Type 0} (d : A) (l m : List A) (n i : ℕ) → length l ≡ n → i < n → get_or l i d ≡ get_or (l ++ m) i d
@@ -31,9 +31,11 @@ taken : (c : Joined-i-lt6)
 taken c =
     let a = c.args in
     let i = c.loop-i.i in
-    let long : length a.t1 ≡ 6 = search rules in
-    ⊎_elim (λ w. w.2 ∙ fore (Plain 0) a.t1 a.t2 6 i long w.0.taken) (λ w. w.2 ∙ rear (Plain 0) a.t1 a.t2 6 i long w.0.left)
-    c.if-i-lt6.branch
+    let long : length a.lead ≡ 6 = search rules in
+    elim c.if-i-lt6.branch [
+      | then-i-lt6 w ↦ w.field-is ∙ fore (Plain 0) a.lead a.own 6 i long w.if-i-lt6.true
+      | else-i-lt6 w ↦ w.field-is ∙ rear (Plain 0) a.lead a.own 6 i long w.if-i-lt6.false
+    ]
 
 pub loop-i-init : goal.loop-i-init
 loop-i-init c = (filled_none 0 _ 42 _ refl, λ k h. absurd (omega arith))
@@ -42,8 +44,8 @@ pub loop-i-preserved : goal.loop-i-preserved
 loop-i-preserved c = let b = c.args.beside in
     let inv = c.loop-i.invariant in
     let is = taken (goal.at.loop-i-preserved c).Joined-i-lt6 in (
-      filled_more 0 _ 42 _ _ _ (omega arith) (c.number.ensures.0 ∙ ap (λ (f : Field). pattern (number_of b f)) is) inv.0,
-      below_more _ _ inv.1 (subst (λ (f : Field). Good b f) is c.number.ensures.1),
+      filled_more 0 _ 42 _ _ _ (omega arith) (c.number.ensures.value ∙ ap (λ (f : Field). pattern (number_of b f)) is) inv.0,
+      below_more _ _ inv.1 (subst (λ (f : Field). Good b f) is c.number.ensures.good),
     )
 
 pub returns : goal.returns

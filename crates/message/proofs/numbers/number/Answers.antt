@@ -2,34 +2,34 @@
 use mathlib.Core.Path.{refl, ap, ◌∙◌}
 use native.Mathlib.Omega.{arith}
 use mir.Syntax.{w32, w64}
-use mir.Val.{of_z}
+use mir.Val.{of_z, SFits}
 use mir.Facts.{to_z-of_z}
 use borrow.Author.Rules.{rules}
 use Rattle.message.proofs.numbers.number.Goals as goal
 
 pub returns-in-Plain : goal.returns-in-Plain
-returns-in-Plain c = rw c.field-1.given.1 (refl, search rules)
+returns-in-Plain c = rw c.in-Plain.is (record { value = refl; good = search rules })
 
 pub returns-in-Signed : goal.returns-in-Signed
-returns-in-Signed c = let z = c.field-in-Signed-1.given.0.0 in
-    let told = c.known_told-in-Signed-1.given.0.1 in
-    let back = to_z-of_z {w = w32} {z = z} (record { sfits = told }) in
-    rw c.field-in-Signed-1.given.1 (c.pattern.ensures ∙ ap (of_z w64) back, omega arith)
+returns-in-Signed c = let z = c.in-Signed.x in
+    let told : SFits w32 z = search rules in
+    let back = to_z-of_z {w = w32} {z = z} told in
+    rw c.in-Signed.is (record { value = c.pattern.ensures ∙ ap (of_z w64) back; good = omega arith })
 
 pub returns-in-Flag : goal.returns-in-Flag
-returns-in-Flag c = rw c.field-in-Flag-1.given.1 (c.flag.ensures, tt)
+returns-in-Flag c = rw c.in-Flag.is (record { value = c.flag.ensures; good = tt })
 
 pub returns-in-WeekNumber : goal.returns-in-WeekNumber
-returns-in-WeekNumber c = rw c.field-in-WeekNumber-1.given.1 (c.week.ensures, omega (arith, c.week.type-inv, c.week.ensures))
+returns-in-WeekNumber c = rw c.in-WeekNumber.is (record { value = c.week.ensures; good = omega (arith, c.week.type_inv, c.week.ensures) })
 
 pub returns-in-Wide : goal.returns-in-Wide
-returns-in-Wide c = rw c.field-in-Wide-1.given.1 (refl, search rules)
+returns-in-Wide c = rw c.in-Wide.is (record { value = refl; good = search rules })
 
 pub returns-in-Givei : goal.returns-in-Givei
-returns-in-Givei c = rw c.field-in-Givei-1.given.1 (c.givei.ensures, omega (arith, c.givei.type-inv, c.givei.ensures))
+returns-in-Givei c = rw c.in-Givei.is (record { value = c.givei.ensures; good = omega (arith, c.givei.type_inv, c.givei.ensures) })
 
 pub returns-in-Givd : goal.returns-in-Givd
-returns-in-Givd c = rw c.field-in-Givd-1.given.1 (c.givd.ensures, omega (arith, c.givd.type-inv, c.givd.ensures))
+returns-in-Givd c = rw c.in-Givd.is (record { value = c.givd.ensures; good = omega (arith, c.givd.type_inv, c.givd.ensures) })
 
 pub returns-in-Byte : goal.returns-in-Byte
-returns-in-Byte c = rw c.field-in-Byte-1.given.1 (c.byte.ensures, omega (arith, c.byte.type-inv, c.byte.ensures))
+returns-in-Byte c = rw c.in-Byte.is (record { value = c.byte.ensures; good = omega (arith, c.byte.type_inv, c.byte.ensures) })

@@ -7,10 +7,8 @@ use lib.Dec.{eqb}
 use lib.ListN.{replicate}
 use Rattle.bits.specs.Lists.{pick, at}
 use Rattle.message.proofs.Filling.{filled_none, filled_more, filled_to, filled_all}
+use Rattle.message.proofs.records.data_of.Invariants.{bytes}
 use Rattle.message.proofs.records.data_of.Goals as goal
-
-abbrev bytes : List ℕ → ℕ → ℕ
-bytes t k = pick (eqb k 27) (at t 34 % 2 ^ 4 * 16) (at t (7 + k) % 2 ^ 8)
 
 pub loop-i-init : goal.loop-i-init
 loop-i-init c = (filled_none 0 _ 28 _ refl, omega arith)

@@ -3,6 +3,7 @@ use mathlib.Core.Path.{◌≡◌, refl, ◌∙◌}
 use mathlib.Core.Bool.{Bool, true, false}
 use Prim.Native.Nat.{ℕ}
 use lib.Dec.{eqb}
+use native.Mathlib.Omega.{arith}
 use Rattle.bits.specs.Lists.{pick}
 use Rattle.message.specs.declared.Entry.{Entry}
 use Rattle.message.specs.declared.Record.TheVariants as case
@@ -22,28 +23,27 @@ data_beside id t = either (eqb id 0)
     either false = refl
 
 pub returns-in-5 : goal.returns-in-5
-returns-in-5 c = rw c.in_default.keys1 c.pairs_of.ensures
+returns-in-5 c = rw c.in-5.is c.pairs_of.ensures
 
 pub returns-in-7 : goal.returns-in-7
-returns-in-7 c = rw c.in_default.keys2 c.nothing_beside.ensures
+returns-in-7 c = rw c.in-7.is c.nothing_beside.ensures
 
 pub returns-in-9 : goal.returns-in-9
-returns-in-9 c = rw c.in_default.keys3 c.nothing_beside-in-9.ensures
+returns-in-9 c = rw c.in-9.is c.nothing_beside-in-9.ensures
 
 pub returns-in-11 : goal.returns-in-11
-returns-in-11 c = rw c.in_default.keys4 c.nothing_beside-in-11.ensures
+returns-in-11 c = rw c.in-11.is c.nothing_beside-in-11.ensures
 
 pub returns-in-26 : goal.returns-in-26
-returns-in-26 c = rw c.in_default.keys5 c.nothing_beside-in-26.ensures
+returns-in-26 c = rw c.in-26.is c.nothing_beside-in-26.ensures
 
 pub returns-in_default : goal.returns-in_default
 returns-in_default c = let a = c.args in
-    let r = c.in_default.rest in
     rw (
-      ne_eqb _ 5 r.0.0.0.0.1,
-      ne_eqb _ 7 r.0.0.0.1,
-      ne_eqb _ 9 r.0.0.1,
-      ne_eqb _ 11 r.0.1,
-      ne_eqb _ 26 r.1,
+      ne_eqb c.args.id 5 (omega arith),
+      ne_eqb c.args.id 7 (omega arith),
+      ne_eqb c.args.id 9 (omega arith),
+      ne_eqb c.args.id 11 (omega arith),
+      ne_eqb c.args.id 26 (omega arith),
     )
     (c.data_of.ensures ∙ data_beside a.id (look a.t))

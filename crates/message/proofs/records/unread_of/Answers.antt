@@ -2,14 +2,10 @@
 use Rattle.message.proofs.records.unread_of.Goals as goal
 
 pub returns : goal.returns
-returns c = let at_prn = c in
-    let at_id = at_prn.before in
-    let at_slot = at_id.before in
-    let at_head = at_slot.before in
-    λ i.
+returns c = λ i.
     record {
-      head = at_head.head_of.ensures i;
-      slot = at_slot.slot_of.ensures i;
-      id = at_id.plain_at.ensures i;
-      prn = at_prn.plain-at2.ensures i;
+      head = c.head_of.ensures i;
+      slot = c.slot_of.ensures i;
+      id = c.plain_at.ensures i;
+      prn = c.plain_at-2.ensures i;
     }
