@@ -11,7 +11,7 @@ use lib.Count.{count_trailing_zeros}
 use lib.Dec.{T, lit≤}
 use lib.IntN.{ℤ, pos, negsuc, nat_abs}
 use lib.Pow.{pow-add, pow_mono, shl_lt}
-use lib.Ieee.{Float, fin, Format, binary64, prec, low, up, down, minus, size, top, hid, odd, fits, to_bits, of_bits}
+use lib.Ieee.{Float, nan, inf, fin, Format, binary64, prec, low, up, down, minus, size, top, hid, odd, fits, to_bits, of_bits}
 use lib.Ieee.Bits.{of_bits-to_bits}
 use lib.Ieee.Exact.{HasValue, odd_sign}
 use lib.Ieee.Fits.{down_pos, odd-fits}
@@ -36,6 +36,8 @@ pattern_of_lem f (fin t m e) s a c C v =
     ∙ ap (pattern f s)
     (div_same (m * up e * l) (down e) (a * l) c (down_pos e) C
     (mul_right_comm (m * up e) l c ∙ ap (λ (x : ℕ). x * l) v.1 ∙ mul_right_comm a (down e) l))
+pattern_of_lem f nan s a c C v = elim v [ ]
+pattern_of_lem f (inf _) s a c C v = elim v [ ]
 
 pub unique : (f : Format) (x y : Float) (s : Bool) (a c : ℕ) → 0 < c → T (fits f x) → T (fits f y) → HasValue x s a c → HasValue y s a c → x ≡ y
 unique f x y s a c C p q v w =

@@ -5,7 +5,7 @@ use Prim.Native.Nat.{ℕ, suc, ◌*◌, ◌^◌, ◌<◌}
 use native.Mathlib.Nat.{mul-one, one-mul, mul_assoc, mul_right_comm, mul-pos, lt_of_lt_of_le, lt_of_le_of_lt, le_of_lt}
 use lib.Dec.{lit≤, lit<}
 use lib.IntN.{ℤ, pos, negsuc, nat_abs}
-use lib.Ieee.{Float, fin, binary64, unlike, up, down, round, mul, of_int}
+use lib.Ieee.{Float, nan, inf, fin, binary64, unlike, up, down, round, mul, of_int}
 use lib.Ieee.Back.{round_whole}
 use lib.Ieee.Exact.{HasValue, round_exact}
 use lib.Ieee.Fits.{down_pos, round-fits}
@@ -39,6 +39,8 @@ mul_power (fin t m k) s n e v =
     ∙ ap (λ (x : ℕ). x * up e * down e) (sym (mul-one (m * up k)) ∙ v.1)
     ∙ ap (λ (x : ℕ). x * down e) (mul_right_comm n (down k) (up e))
     ∙ mul_assoc (n * up e) (down k) (down e))
+mul_power nan s n e v = elim v [ ]
+mul_power (inf _) s n e v = elim v [ ]
 
 scaling : (z e : ℤ) → nat_abs z < 2 ^ 53 → Near e → mul binary64 (of_int binary64 z) (fin false 1 e) ≡ exactly z e
 unfolding of_int exactly

@@ -16,7 +16,7 @@ use message::{Beside, Record, Subframe1, Subframe2};
 // The fields of both subframes from bit 31 to bit 260 except the ten reserved bits, each exactly its raw number times the scale of its row; angles
 // in semi-circles.
 #[repr(C)]
-#[derive(Drop)]
+#[derive(Clone, Copy)]
 pub struct Ephemeris {
     pub wn: f64,
     pub af0: f64,
@@ -48,7 +48,7 @@ pub struct Ephemeris {
 
 // Refusal 0 or 11; +0 throughout where refused.
 #[repr(C)]
-#[derive(Drop)]
+#[derive(Clone, Copy)]
 pub struct Paired {
     pub refusal: u8,
     pub ephemeris: Ephemeris,

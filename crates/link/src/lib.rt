@@ -9,7 +9,7 @@ ghost use Rattle.link.specs.Link.{sent_of, refused, nearest_of, receive_of};
 use framing::Polarity;
 
 // What 600 symbols say: the paper's 3, 4 and 10, or a word.
-#[derive(Drop)]
+#[derive(Clone, Copy)]
 pub enum Answer {
     BadSymbol,
     NoSync,
@@ -22,7 +22,7 @@ pub enum Answer {
 }
 
 // The answer, and the word of 286 bits beside it, a byte for each; zeros where there is none.
-#[derive(Drop)]
+#[derive(Clone, Copy)]
 pub struct Received {
     pub answer: Answer,
     pub word: [u8; 286],

@@ -15,14 +15,14 @@ mod reader;
 mod writer;
 
 // How well a subframe was received: the corrected count, and whether it came turned over.
-#[derive(Drop)]
+#[derive(Clone, Copy)]
 pub struct Quality {
     pub corrected: u16,
     pub turned_over: bool,
 }
 
 // What the reader answers. In the paper's numbers: 0, 1, 2, 3, 4, 10, 5, 6, 7.
-#[derive(Drop)]
+#[derive(Clone, Copy)]
 pub enum Reading {
     Done(Record, Quality),
     Length,
@@ -36,14 +36,14 @@ pub enum Reading {
 }
 
 // The answer, and what stands beside its record; 0 where there is none.
-#[derive(Drop)]
+#[derive(Clone, Copy)]
 pub struct Readout {
     pub reading: Reading,
     pub beside: Beside,
 }
 
 // What the writer answers. In the paper's numbers: 0, 2, 9, 7, 8 with the first bit of the lowest field at fault.
-#[derive(Drop)]
+#[derive(Clone, Copy)]
 pub enum Written {
     Done,
     Room,
@@ -54,7 +54,7 @@ pub enum Written {
 
 // The six numbers that the program prints.
 #[repr(C)]
-#[derive(Drop)]
+#[derive(Clone, Copy)]
 pub struct Numbers {
     pub refusal: u32,
     pub corrected: u32,

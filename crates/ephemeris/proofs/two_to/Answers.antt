@@ -13,8 +13,7 @@ use mir.Val.{Fits, SFits, to_z, of_z}
 use mir.ValLaws.{to_z-of_z}
 use Rattle.ephemeris.specs.Scales.{Near}
 use Rattle.ephemeris.proofs.Biased.{biased, biased_is, biased_pos, biased_lt, biased_back}
-use Rattle.ephemeris.proofs.two_to.Statement.{statement}
-use Rattle.ephemeris.proofs.two_to.Tie as tie
+use Rattle.ephemeris.proofs.two_to.Goals as goal
 
 -- the machine's sum, and that sum read back from its bits
 sum_is : (e : ℤ) → SFits w32 e → Near e → to_z w32 (of_z w32 e) +ℤ pos 1023 ≡ pos (biased e)
@@ -26,24 +25,18 @@ below e h = record { sfits = lt_of_lt_of_le (biased_lt e h) (lit≤ tt) }
 again : (e : ℤ) → SFits w32 e → Near e → to_z w32 (of_z w32 (to_z w32 (of_z w32 e) +ℤ pos 1023)) ≡ pos (biased e)
 again e f h = ap (λ (z : ℤ). to_z w32 (of_z w32 z)) (sum_is e f h) ∙ to_z-of_z w32 (pos (biased e)) (below e h)
 
-add-power : tie.Need-overflow-add-power
-add-power c = subst (λ (z : ℤ). SFits w32 z) (sym (sum_is c.args.e c.ranges.e c.requires)) (below c.args.e c.requires)
+pub overflow_add-e : goal.overflow_add-e
+overflow_add-e c = subst (λ (z : ℤ). SFits w32 z) (sym (sum_is c.args.e c.ranges.e c.requires)) (below c.args.e c.requires)
 
-cast-power : tie.Need-overflow-cast-power
-cast-power c =
-    subst (λ (z : ℤ). T (non_neg z) × Fits w64 (nat_abs z)) (sym (again c.args.e c.ranges.e c.requires))
+pub overflow_cast-e : goal.overflow_cast-e
+overflow_cast-e c = subst (λ (z : ℤ). T (non_neg z) × Fits w64 (nat_abs z)) (sym (again c.args.e c.ranges.e c.requires))
     (tt, record { fits = lt_of_lt_of_le (biased_lt c.args.e c.requires) (lit≤ tt) })
 
-power-requires : tie.Need-power-requires
-power-requires c κs =
-    subst (λ (z : ℤ). (0 < nat_abs z) × (nat_abs z < 2047)) (sym (again c.args.e c.ranges.e c.requires))
+pub power-requires : goal.power-requires
+power-requires c = subst (λ (z : ℤ). (0 < nat_abs z) × (nat_abs z < 2047)) (sym (again c.args.e c.ranges.e c.requires))
     (biased_pos c.args.e c.requires, biased_lt c.args.e c.requires)
 
-returns : tie.Need-returns
-returns c =
-    c.power.ensures
-    ∙ ap (λ (z : ℤ). fin false 1 (minus (nat_abs z) 1023)) (again c.before.args.e c.before.ranges.e c.before.requires)
-    ∙ ap (λ (z : ℤ). fin false 1 z) (biased_back c.before.args.e c.before.requires)
-
-pub two_to_spec : {M : Type 1} → statement M
-two_to_spec = tie.close (tie.spec add-power cast-power power-requires returns)
+pub returns : goal.returns
+returns c = c.power.ensures
+    ∙ ap (λ (z : ℤ). fin false 1 (minus (nat_abs z) 1023)) (again c.args.e c.ranges.e c.requires)
+    ∙ ap (λ (z : ℤ). fin false 1 z) (biased_back c.args.e c.requires)
