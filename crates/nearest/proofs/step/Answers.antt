@@ -19,11 +19,11 @@ toll_in c =
 
 pub loop-j-init : goal.loop-j-init
 loop-j-init c = record {
-      upto = omega arith;
-      row = omega (arith, c.wide.ensures, c.less.ensures, c.wide-2.ensures, c.less-2.ensures);
-      nexts = record { evens = put_none _ _ _; odds = put_none _ _ _ };
-      marks = record { evens = put_none _ _ _; odds = put_none _ _ _ };
-    }
+  upto = omega arith;
+  row = omega (arith, c.wide.ensures, c.less.ensures, c.wide-2.ensures, c.less-2.ensures);
+  nexts = record { evens = put_none _ _ _; odds = put_none _ _ _ };
+  marks = record { evens = put_none _ _ _; odds = put_none _ _ _ };
+}
 
 pub butterfly-f-requires : goal.butterfly-f-requires
 butterfly-f-requires c = small _ _ _ _ c.args.m.now c.requires.p_bound.0 c.loop-j-test.true (toll_in (goal.at.butterfly-f-requires c).In-loop-j) c.requires.p_bound.2
