@@ -11,13 +11,13 @@ bit_in : (c : In-loop-t)
     → mark_at c.args.marks.now (c.loop-t.t - 1 + 6) c.loop-t.s ≤ 1
 bit_in c =
     let now = c.loop-t in
-    c.requires.1 (now.t - 1 + 6) now.s (omega arith) now.invariant.state
+    c.requires.by_index (now.t - 1 + 6) now.s (omega arith) now.invariant.state
 
 pub loop-t-init : goal.loop-t-init
-loop-t-init c = way_first c.requires.0.1
+loop-t-init c = way_first c.requires.marks_len.1
 
 pub kept-k-requires : goal.kept-k-requires
-kept-k-requires c = (omega arith, c.loop-t.invariant.state, c.requires.0.0)
+kept-k-requires c = (omega arith, c.loop-t.invariant.state, c.requires.marks_len.0)
 
 pub overflow_mul-s : goal.overflow_mul-s
 overflow_mul-s c = omega (arith, bit_in (goal.at.overflow_mul-s c).In-loop-t, c.wide.ensures, c.kept-k.ensures)
@@ -26,10 +26,9 @@ pub overflow_add-s : goal.overflow_add-s
 overflow_add-s c = omega (arith, bit_in (goal.at.overflow_add-s c).In-loop-t, c.wide.ensures, c.kept-k.ensures)
 
 pub loop-t-preserved : goal.loop-t-preserved
-loop-t-preserved c = let i : goal.In-loop invariant-loop decreases-loop = c in
-    let e : i.before.loop.t ≡ suc (i.before.loop.t - 1) = omega arith in
+loop-t-preserved c = let e : c.loop-t.t ≡ suc (c.loop-t.t - 1) = omega arith in
     let k = c.kept-k.ensures in
-    rw c.wide.ensures (way_more (omega arith) k (omega (arith, bit_in i)) (rw e at i.before.loop.invariant))
+    rw c.wide.ensures (way_more (omega arith) k (omega (arith, bit_in (goal.at.loop-t-preserved c).In-loop-t)) (rw e at c.loop-t.invariant))
 
 pub returns : goal.returns
 returns c = let e : c.loop-t.t ≡ 0 = omega arith in

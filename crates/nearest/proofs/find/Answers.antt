@@ -9,7 +9,7 @@ use Rattle.nearest.proofs.find.Goals as goal
 
 pub back-requires : goal.back-requires
 back-requires c = let f = c.forward-total in
-    ((f.auto.1.1.1.0 ∙ length-replicate {A = ℕ} 18688 0, c.requires.2), marks_bits f.ensures.1)
+    record { marks_len = (f.auto.marks ∙ length-replicate {A = ℕ} 18688 0, c.requires.2); by_index = marks_bits f.ensures.1 }
 
 pub returns : goal.returns
 returns c = let f = c.forward-total.ensures in

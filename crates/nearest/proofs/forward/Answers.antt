@@ -30,10 +30,11 @@ pub block-m-requires : goal.block-m-requires
 block-m-requires c = let a = c.requires in
     let f = c.fewer-n.ensures in
     let v = c.loop-t.invariant in
-    let d = ap (λ (k : ℕ). at c.loop-t.m 0 - k) c.less.ensures in (
-      (a.0.price, shorter _ _ _ a.0 (omega arith), c.table-evenToll.ensures),
-      ((omega arith, under v d c.lower-first.ensures), (v.long, v.marked, a.2)),
-    )
+    let d = ap (λ (k : ℕ). at c.loop-t.m 0 - k) c.less.ensures in record {
+      p_bound = (a.0.price, shorter _ _ _ a.0 (omega arith), c.table-evenToll.ensures);
+      n_bound = (omega arith, under v d c.lower-first.ensures);
+      marks_len = (v.long, v.marked, a.2);
+    }
 
 pub overflow_add-t : goal.overflow_add-t
 overflow_add-t c = omega (arith, c.fewer-n.ensures)
@@ -45,7 +46,7 @@ pub loop-t-preserved : goal.loop-t-preserved
 loop-t-preserved c = let f = c.fewer-n.ensures in
     let d = ap (λ (k : ℕ). at c.loop-t.m 0 - k) c.less.ensures in
     rw c.wide16-base.ensures
-    (blocks_more c.loop-t.invariant d c.lower-first.ensures _ (omega arith) (omega (arith, c.requires.0.six)) c.block-m.auto.1.1.1.1.1.1.0
+    (blocks_more c.loop-t.invariant d c.lower-first.ensures _ (omega arith) (omega (arith, c.requires.0.six)) c.block-m.auto.marks
     c.block-m.ensures)
 
 pub overflow_add-result : goal.overflow_add-result

@@ -1,7 +1,6 @@
 use mathlib.Core.Path.{refl}
 use native.Mathlib.Omega.{arith}
 use Rattle.bits.proofs.Fill.{put_none, put_more}
-use Rattle.nearest.specs.Steps.{mark_place}
 use Rattle.nearest.proofs.keep.Goals as goal
 
 pub loop-s-init : goal.loop-s-init

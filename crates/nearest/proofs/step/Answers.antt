@@ -14,19 +14,19 @@ toll_in : (c : In-loop-j)
     at a.table.now (32 * (8 * c.wide.result + c.wide-2.result) + c.loop-j.j)
     ≡ toll a.p (a.x, a.y) (2 * c.loop-j.j)
 toll_in c =
-    let pre = c.requires.0 in
+    let pre = c.requires.p_bound in
     row_at _ _ _ _ _ _ pre.0 pre.1 c.loop-j.invariant.row c.loop-j-test.true
 
 pub loop-j-init : goal.loop-j-init
 loop-j-init c = record {
-      upto = omega arith;
-      row = omega (arith, c.wide.ensures, c.less.ensures, c.wide-2.ensures, c.less-2.ensures);
-      nexts = record { evens = put_none _ _ _; odds = put_none _ _ _ };
-      marks = record { evens = put_none _ _ _; odds = put_none _ _ _ };
-    }
+  upto = omega arith;
+  row = omega (arith, c.wide.ensures, c.less.ensures, c.wide-2.ensures, c.less-2.ensures);
+  nexts = record { evens = put_none _ _ _; odds = put_none _ _ _ };
+  marks = record { evens = put_none _ _ _; odds = put_none _ _ _ };
+}
 
 pub butterfly-f-requires : goal.butterfly-f-requires
-butterfly-f-requires c = small _ _ _ _ c.args.m.now c.requires.0.0 c.loop-j-test.true (toll_in (goal.at.butterfly-f-requires c).In-loop-j) c.requires.0.2
+butterfly-f-requires c = small _ _ _ _ c.args.m.now c.requires.p_bound.0 c.loop-j-test.true (toll_in (goal.at.butterfly-f-requires c).In-loop-j) c.requires.p_bound.2
 
 pub loop-j-preserved : goal.loop-j-preserved
 loop-j-preserved c = let v = c.loop-j.invariant in
@@ -35,11 +35,11 @@ loop-j-preserved c = let v = c.loop-j.invariant in
     record {
       upto = omega arith;
       row = v.row;
-      nexts = halves_more _ _ _ _ _ _ c.loop-j-test.true (even_metric f g.0.0) (odd_metric f g.1.0) v.nexts;
-      marks = halves_more _ _ _ _ _ _ c.loop-j-test.true (even_mark f g.0.1) (odd_mark f g.1.1) v.marks;
+      nexts = halves_more _ _ _ _ _ _ c.loop-j-test.true (even_metric f g.m0_value.0) (odd_metric f g.m1_value.0) v.nexts;
+      marks = halves_more _ _ _ _ _ _ c.loop-j-test.true (even_mark f g.m0_value.1) (odd_mark f g.m1_value.1) v.marks;
     }
 
 pub returns : goal.returns
 returns c = let e : c.loop-j.j ≡ 32 = omega arith in
     let v = rw e at c.loop-j.invariant in
-    (c.weave.ensures _ v.nexts, c.weave-2.ensures _ v.marks)
+    record { put = c.weave.ensures _ v.nexts; put_2 = c.weave-2.ensures _ v.marks }

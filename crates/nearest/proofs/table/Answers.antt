@@ -14,7 +14,7 @@ row-requires c = (c.requires, omega (arith, c.wide-w.ensures), c.loop-q.invarian
 
 pub loop-q-preserved : goal.loop-q-preserved
 loop-q-preserved c = let v = c.loop-q.invariant in
-    elim c.if-q-w.branch [ then-q-w w ↦ rw w.FIELD3 (omega arith, w.FIELD2.ensures.long ∙ v.1, tolls_more v.2 w.FIELD2.ensures) | else-q-w w ↦ rw w.FIELD1 (omega arith, v.1, tolls_skip v.2 (omega (arith, c.wide-w.ensures, w.if-q-w.false))) ]
+    elim c.if-q-w.branch [ then-q-w w ↦ rw w.all-is (omega arith, w.row.ensures.long ∙ v.1, tolls_more v.2 w.row.ensures) | else-q-w w ↦ rw w.all-is (omega arith, v.1, tolls_skip v.2 (omega (arith, c.wide-w.ensures, w.if-q-w.false))) ]
 
 pub returns : goal.returns
 returns c = let e : c.loop-q.q ≡ 9 * c.args.p + 1 = omega (arith, c.wide-w.ensures) in

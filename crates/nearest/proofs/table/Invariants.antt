@@ -7,7 +7,7 @@ use Rattle.nearest.specs.Steps.{Tolls}
 use Rattle.nearest.proofs.table.Given as goal
 
 abbrev pub invariant-loop-q : goal.invariant-loop-q
-invariant-loop-q l = (l.q ≤ l.q_end) × (length l.all ≡ 2048) × Tolls l.p l.q l.all
+invariant-loop-q l = (l.q ≤ l.q-end) × (length l.all ≡ 2048) × Tolls l.p l.q l.all
 
 abbrev pub decreases-loop-q : goal.decreases-loop-q
-decreases-loop-q l = l.q_end - l.q
+decreases-loop-q l = l.q-end - l.q
