@@ -1,7 +1,7 @@
 -- What the decoder puts right: since the coded forms of two words are ten symbols apart, a word that was received with less than five symbols'
 -- worth of errors is the nearest. At the price 1 the cost is the number of symbols that differ. Assumes nothing.
 use mathlib.Core.Path.{◌≡◌, refl, sym, ◌∙◌}
-use mathlib.Core.Logic.{◌⊎◌, inl, inr}
+use mathlib.Core.Logic.{inl}
 use mathlib.Core.List.{List, [], ◌∷◌}
 use Prim.Native.Nat.{ℕ, ◌+◌, ◌*◌, ◌≤◌, ◌<◌}
 use native.Mathlib.Nat.{mul-le-mul_left}

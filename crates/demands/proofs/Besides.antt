@@ -1,6 +1,6 @@
 -- The numbers beside the reader's answer: beside 1, 2, 3, 4 and 10 zeros; beside 0, 5, 6 and 7 the corrected count and the polarity of the word
 -- nearest to what came. Assumes nothing.
-use mathlib.Core.Path.{◌≡◌, refl, sym, ap, subst, ◌∙◌}
+use mathlib.Core.Path.{◌≡◌, refl, sym, ap, subst}
 use mathlib.Core.Bool.{Bool, true, false}
 use mathlib.Core.List.{List}
 use Prim.Native.Nat.{ℕ, ◌≤◌, ◌<◌}
@@ -15,7 +15,7 @@ use Rattle.link.specs.Link.{word_of, corrected_of, receive_of}
 use Rattle.link.specs.Promise.{Taken}
 use Rattle.link.proofs.Taken as taken
 use Rattle.link.proofs.Taken.{Outcome, outcome, nearest_taken}
-use Rattle.demands.specs.Family.{Family, Reading, done, refused, not_of_600, little_room, bad_symbol, no_sync, no_word, is_idle, bad_check, bad_time, reading_of, by_time, by_check}
+use Rattle.demands.specs.Family.{Family, Reading, done, refused, not_of_600, little_room, bad_symbol, no_sync, no_word, is_idle, bad_check, bad_time, reading_of, by_check}
 use Rattle.demands.proofs.Ordered.{not_600, little_room_lem, by_link_lem, by_word}
 
 module _ (f : Family) (s : List ℕ) where

@@ -2,28 +2,26 @@
 -- Assumes nothing.
 use mathlib.Core.Path.{◌≡◌, refl, sym, ap, subst, ◌∙◌}
 use mathlib.Core.Bool.{Bool, true, false}
-use mathlib.Core.List.{List, ◌++◌}
-use Prim.Native.Nat.{ℕ, ◌+◌, ◌≤◌, ◌<◌}
+use mathlib.Core.List.{List}
+use Prim.Native.Nat.{ℕ, ◌≤◌}
 use native.Mathlib.Decide.{ℕ_discrete, dec_le}
 use native.Mathlib.Omega.{arith}
 use lib.ListN.{length, take, drop}
 use lib.Seq.{length-take-le}
-use Rattle.bits.specs.Lists.{Bits, pick}
+use Rattle.bits.specs.Lists.{pick}
 use Rattle.bits.proofs.Lists.{at_most_take}
 use Rattle.bits.proofs.Sum.{differences_none}
 use Rattle.crc24q.specs.Check.{agrees_of, with_check}
 use Rattle.crc24q.proofs.Word.{with_check_long, with_check_bits, with_check_agrees, take_with_check, agrees_with_check}
 use Rattle.framing.specs.Frame.{turned_if, coded_of}
 use Rattle.framing.proofs.Subframe.{turned_long}
-use Rattle.link.specs.declared.Answer.{Answer}
-use Rattle.link.specs.declared.Answer.TheVariants as link
 use Rattle.link.specs.declared.Received.{Received}
 use Rattle.link.specs.Link.{sent_of, word_of, corrected_of, receive_of}
 use Rattle.link.specs.Promise.{IsWord, altered_coded, Altered, Taken}
-use Rattle.link.proofs.Recovered.{sent_long, recovered, unaltered}
+use Rattle.link.proofs.Recovered.{recovered, unaltered}
 use Rattle.link.proofs.Taken as taken
 use Rattle.link.proofs.Taken.{Outcome, outcome, nearest_taken}
-use Rattle.demands.specs.Family.{IsBody, Family, Lawful, Reading, Why, done, refused, bad_time, by_check, by_time, by_link, reading_of, symbols_of, writing_of, write_into}
+use Rattle.demands.specs.Family.{IsBody, Family, Lawful, Why, done, refused, bad_time, by_check, by_time, reading_of, symbols_of}
 use Rattle.demands.proofs.Ordered.{by_link_lem, by_word, not_600, little_room_lem}
 
 module _ (f : Family) (l : Lawful f) where

@@ -3,28 +3,24 @@
 use mathlib.Core.Path.{◌≡◌, refl, sym, ap, subst, ◌∙◌}
 use mathlib.Core.Bool.{Bool, true, false}
 use mathlib.Core.List.{List, [], ◌∷◌}
-use Prim.Native.Nat.{ℕ, zero, suc, ◌+◌, ◌≤◌, ◌<◌}
+use Prim.Native.Nat.{ℕ, suc, ◌≤◌, ◌<◌}
 use native.Mathlib.Decide.{ℕ_discrete, dec_le}
 use native.Mathlib.Omega.{arith}
-use borrow.Author.Tests.{eq-eqb, ne_eqb, le-leb, lt-leb, leb-true, leb-false}
+use borrow.Author.Tests.{eq-eqb, ne_eqb, le-leb, lt-leb, leb-false}
 use lib.Dec.{leb}
 use lib.ListN.{length, take, drop}
-use Rattle.bits.specs.Lists.{at, pick, both, at_most}
+use Rattle.bits.specs.Lists.{pick, both, at_most}
 use Rattle.bits.proofs.Lists.{at_most_at, at_most_holds, at_most_true}
 use Rattle.crc24q.specs.Check.{agrees_of}
-use Rattle.framing.specs.Frame.{coded_of}
-use Rattle.framing.specs.Sync.{sync_of}
-use Rattle.framing.specs.declared.Polarity.{Polarity}
-use Rattle.framing.specs.declared.Polarity.TheVariants.{Upright, TurnedOver, Missing}
-use Rattle.link.specs.declared.Answer.{Answer}
+use Rattle.framing.specs.declared.Polarity.TheVariants.{Missing}
 use Rattle.link.specs.declared.Answer.TheVariants as link
 use Rattle.link.specs.declared.Received.{Received}
-use Rattle.link.specs.Link.{word_of, corrected_of, receive_of}
+use Rattle.link.specs.Link.{receive_of}
 use Rattle.link.specs.Promise.{polarity_of}
 use Rattle.link.proofs.Taken as taken
 use Rattle.link.proofs.Taken.{Outcome, outcome, some_word_ends}
 use Rattle.demands.specs.Refusals.{Refusal, Given, none, here, later}
-use Rattle.demands.specs.Family.{Family, Lawful, Reading, done, refused, not_of_600, little_room, bad_symbol, no_sync, no_word, is_idle, bad_check, bad_time, SymbolAbove, reader_conditions, writer_conditions, reading_number, by_link, by_check, by_time, reading_of, writing_of}
+use Rattle.demands.specs.Family.{Family, Lawful, Reading, done, refused, not_of_600, little_room, is_idle, bad_check, bad_time, SymbolAbove, reader_conditions, writer_conditions, reading_number, by_link, by_check, by_time, reading_of, writing_of}
 
 -- one number only
 pub given_one : {rs : List Refusal} {n m : ℕ} → Given rs n → Given rs m → n ≡ m

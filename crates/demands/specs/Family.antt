@@ -8,7 +8,6 @@ use Rattle.framing.specs.Sync.{sync_of}
 use Rattle.framing.specs.declared.Polarity.TheVariants.{Missing}
 use Rattle.link.specs.declared.Answer.{Answer}
 use Rattle.link.specs.declared.Answer.TheVariants as link
-use Rattle.link.specs.declared.Received.{Received}
 use Rattle.link.specs.Link.{sent_of, receive_of}
 use Rattle.link.specs.Promise.{NoWordEnds}
 use Rattle.demands.specs.Refusals.{Refusal, Given}

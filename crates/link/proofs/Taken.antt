@@ -5,7 +5,7 @@ use mathlib.Core.Bool.{Bool, true, false}
 use mathlib.Core.List.{List, ◌++◌}
 use Prim.Native.Nat.{ℕ}
 use native.Mathlib.Omega.{arith}
-use lib.ListN.{take, drop, replicate, length-replicate, take-append-drop}
+use lib.ListN.{take, replicate, length-replicate, take-append-drop}
 use lib.Seq.{length-take-le}
 use Rattle.bits.specs.Lists.{Bits, at_most}
 use Rattle.bits.proofs.Lists.{at_most_holds, at_most_take, at_most_zeros}

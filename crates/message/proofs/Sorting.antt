@@ -6,7 +6,7 @@ use mathlib.Core.List.{List}
 use Prim.Native.Nat.{ℕ, ◌-◌, ◌%◌, ◌^◌, ◌≤◌, ◌<◌}
 use native.Mathlib.Nat.{mod-eq_of_lt}
 use native.Mathlib.Omega.{arith}
-use borrow.Author.Tests.{eqb-true, leb-true, ltb-true}
+use borrow.Author.Tests.{leb-true, ltb-true}
 use lib.Dec.{eqb, leb, ltb}
 use lib.IntN.{ℤ, pos, negsuc}
 use lib.ListN.{get_or, drop}
@@ -19,7 +19,7 @@ use Rattle.bits.specs.Lists.{pick, both, at, part}
 use Rattle.bits.specs.Numbers.{number}
 use Rattle.bits.proofs.Numbers.{number_few}
 use Rattle.fields.specs.declared.Row.{Row}
-use Rattle.fields.specs.Table.{first, width, signed, head}
+use Rattle.fields.specs.Table.{first, width, signed}
 use Rattle.fields.specs.Fields.{value_at, value_of, twos, values, holds}
 use Rattle.fields.specs.Patterns.{no_row, pattern, patterns}
 use Rattle.fields.proofs.Twos.{value_holds}

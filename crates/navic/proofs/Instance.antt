@@ -10,10 +10,10 @@ use lib.ListN.{drop}
 use Rattle.bits.specs.Lists.{pick}
 use Rattle.weektime.specs.Time.{towc_refused}
 use Rattle.message.specs.declared.Entry.{Entry}
-use Rattle.message.specs.Records.{from_body, to_body, fault_of, id_refused, towc_in}
+use Rattle.message.specs.Records.{from_body, fault_of, id_refused, towc_in}
 use Rattle.message.proofs.Laws.{body_long, body_bits, record_back, body_back, read_accepted}
-use Rattle.demands.specs.Refusals.{Refusal, Given, none, here, later}
-use Rattle.demands.specs.Family.{IsBody, Family, Lawful}
+use Rattle.demands.specs.Refusals.{Given, none, here, later}
+use Rattle.demands.specs.Family.{Lawful}
 use Rattle.navic.specs.Navic.{entry_conditions, entry_refusal, family}
 
 pub clash : {b : Bool} → b ≡ false → b ≡ true → ⊥

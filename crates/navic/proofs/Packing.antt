@@ -5,7 +5,7 @@ use mathlib.Core.List.{List, [], ◌∷◌, ◌++◌, append_assoc, append-nil}
 use Prim.Native.Nat.{ℕ, zero, suc, ◌+◌, ◌*◌, ◌%◌, ◌^◌, ◌≤◌, ◌<◌}
 use native.Mathlib.Numerals.{add-one}
 use native.Mathlib.Omega.{arith}
-use lib.ListN.{length, get_or, set, take, drop, replicate, length-append, length-take, length-drop, length-replicate}
+use lib.ListN.{length, set, take, drop, replicate, length-append, length-take, length-drop, length-replicate}
 use lib.Seq.{take-suc, drop-cons, set_at, length-take-le, take_all, drop-length}
 use Rattle.bits.specs.Lists.{at, part}
 use Rattle.bits.specs.Numbers.{number}

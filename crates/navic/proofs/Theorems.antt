@@ -6,7 +6,7 @@ use mathlib.Core.List.{List, ◌++◌}
 use Prim.Native.Nat.{ℕ, ◌≤◌}
 use native.Mathlib.Omega.{arith}
 use lib.Dec.{eqb, leb}
-use lib.ListN.{length, take, drop}
+use lib.ListN.{length, drop}
 use borrow.Author.Tests.{eq-eqb, ne_eqb, le-leb}
 use Rattle.bits.specs.Lists.{pick, differences}
 use Rattle.convolution.specs.Code.{coded_form}
@@ -15,7 +15,6 @@ use Rattle.crc24q.specs.Check.{agrees_of}
 use Rattle.framing.specs.Frame.{turned_if}
 use Rattle.link.specs.Link.{sent_of, receive_of}
 use Rattle.link.specs.Promise.{IsWord, altered_coded, Altered, Taken}
-use Rattle.link.proofs.Recovered.{sent_long}
 use Rattle.message.specs.declared.Record.{Record}
 use Rattle.message.specs.declared.Beside.{Beside}
 use Rattle.message.specs.Records.{id_refused, towc_in, fault_of}
@@ -23,7 +22,6 @@ use Rattle.weektime.specs.Time.{towc_refused}
 use Rattle.navic.specs.declared.Reading.{Reading}
 use Rattle.navic.specs.declared.Reading.TheVariants as reading
 use Rattle.navic.specs.declared.Readout.{Readout}
-use Rattle.navic.specs.declared.Written.{Written}
 use Rattle.navic.specs.declared.Written.TheVariants as written
 use Rattle.demands.specs.Refusals.{Given}
 use Rattle.demands.specs.Family as any

@@ -27,9 +27,9 @@ returns-then-fault-eq0 c = let r = c.args.«record» in
 pub returns-else-fault-eq0 : goal.returns-else-fault-eq0
 unfolding idle_in
 returns-else-fault-eq0 c = rw (
-      sym c.is_half.ensures ∙ c.if-is_half.true,
-      fault_test c.args.«record» c.nothing_beside-beside.ensures c.fault.ensures (ne_eqb _ _ c.if-fault-eq0.false),
-    )
+  sym c.is_half.ensures ∙ c.if-is_half.true,
+  fault_test c.args.«record» c.nothing_beside-beside.ensures c.fault.ensures (ne_eqb _ _ c.if-fault-eq0.false),
+)
 
 pub returns-else-is_half : goal.returns-else-is_half
 unfolding idle_in

@@ -1,13 +1,12 @@
-use mathlib.Core.Path.{◌≡◌, refl, sym, ap, subst, ◌∙◌}
+use mathlib.Core.Path.{refl, sym, ap, subst, ◌∙◌}
 use mathlib.Core.Bool.{false}
 use mathlib.Core.List.{List}
 use native.Mathlib.Omega.{arith}
 use lib.ListN.{get_or}
 use borrow.Author.Rules.{rules}
-use lib.IntN.{ℤ}
 use lib.Ieee.{nan, fin}
 use mir.Syntax.{w32}
-use mir.Val.{SFits, to_z, of_z}
+use mir.Val.{SFits}
 use mir.ValLaws.{to_z-of_z}
 use Rattle.fields.specs.declared.Row.{Row}
 use Rattle.fields.specs.Patterns.{no_row}
@@ -16,8 +15,6 @@ use Rattle.fields.proofs.Rules.{few}
 use Rattle.ephemeris.specs.Scales.{Near}
 use Rattle.ephemeris.proofs.Rows.{exponent, exponents_near, exponent_is}
 use Rattle.ephemeris.proofs.powers.Goals as goal
-
-
 
 pub loop-i-init : goal.loop-i-init
 loop-i-init c = filled_none nan _ 42 _ refl

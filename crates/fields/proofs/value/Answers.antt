@@ -23,10 +23,10 @@ as_value c s e = ap (λ (t : Bool). value_of t (width c.args.row) (spelt c)) (sy
 
 pub extend-requires : goal.extend-requires
 extend-requires c = let a = c.args in (
-      c.requires.2,
-      c.requires.3,
-      rw c.field-n.ensures (number_few (drop (first a.row - 1) a.body.now) (width a.row) (width a.row) (le_refl (width a.row))),
-    )
+  c.requires.2,
+  c.requires.3,
+  rw c.field-n.ensures (number_few (drop (first a.row - 1) a.body.now) (width a.row) (width a.row) (le_refl (width a.row))),
+)
 
 pub returns-then-row : goal.returns-then-row
 unfolding spelt

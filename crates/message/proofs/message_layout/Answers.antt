@@ -20,9 +20,9 @@ returns-in-26 c = rw c.in-26.is
 
 pub returns-in_default : goal.returns-in_default
 returns-in_default c = rw (
-      ne_eqb c.args.id 5 (omega arith),
-      ne_eqb c.args.id 7 (omega arith),
-      ne_eqb c.args.id 9 (omega arith),
-      ne_eqb c.args.id 11 (omega arith),
-      ne_eqb c.args.id 26 (omega arith),
-    )
+  ne_eqb c.args.id 5 (omega arith),
+  ne_eqb c.args.id 7 (omega arith),
+  ne_eqb c.args.id 9 (omega arith),
+  ne_eqb c.args.id 11 (omega arith),
+  ne_eqb c.args.id 26 (omega arith),
+)

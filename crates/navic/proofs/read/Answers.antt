@@ -11,16 +11,16 @@ pub returns-then-symbols-ne600 : goal.returns-then-symbols-ne600
 returns-then-symbols-ne600 c =
     let a = c.args in
     let both =
-          refused_is a.symbols.now a.room.now reading.Length c.refuse.result refl c.refuse.ensures
-          (length_is a.symbols.now a.room.now c.if-symbols-ne600.true) in
+    refused_is a.symbols.now a.room.now reading.Length c.refuse.result refl c.refuse.ensures
+    (length_is a.symbols.now a.room.now c.if-symbols-ne600.true) in
     record { value = both.0; room_after = both.1 }
 
 pub returns-then-room-lt36 : goal.returns-then-room-lt36
 returns-then-room-lt36 c =
     let a = c.args in
     let both =
-          refused_is a.symbols.now a.room.now reading.Room c.refuse-then-room-lt36.result refl c.refuse-then-room-lt36.ensures
-          (room_is a.symbols.now a.room.now c.if-symbols-ne600.false c.if-room-lt36.true) in
+    refused_is a.symbols.now a.room.now reading.Room c.refuse-then-room-lt36.result refl c.refuse-then-room-lt36.ensures
+    (room_is a.symbols.now a.room.now c.if-symbols-ne600.false c.if-room-lt36.true) in
     record { value = both.0; room_after = both.1 }
 
 pub returns : goal.returns
@@ -28,9 +28,9 @@ returns c =
     let a = c.args in
     let received : c.receive-received.result ≡ receive_of 1 a.symbols.now = c.receive-received.ensures ∙ ap (receive_of 1) c.all_600-all.ensures in
     let both =
-          read_is a.symbols.now a.room.now c.by_link-read.result c.is_done.result c.receive-received.result.word _
-          (c.by_link-read.ensures ∙ link_is a.symbols.now a.room.now c.if-symbols-ne600.false c.if-room-lt36.false c.receive-received.result received)
-          c.is_done.ensures
-          (ap (λ (x : Received). x.word) received)
-          c.lend.ensures in
+    read_is a.symbols.now a.room.now c.by_link-read.result c.is_done.result c.receive-received.result.word _
+    (c.by_link-read.ensures ∙ link_is a.symbols.now a.room.now c.if-symbols-ne600.false c.if-room-lt36.false c.receive-received.result received)
+    c.is_done.ensures
+    (ap (λ (x : Received). x.word) received)
+    c.lend.ensures in
     record { value = both.0; room_after = both.1 }

@@ -1,13 +1,8 @@
 use mathlib.Core.Path.{refl}
-use mathlib.Core.List.{List}
-use Prim.Native.Nat.{ℕ, ◌+◌, ◌*◌, ◌%◌, ◌^◌}
 use native.Mathlib.Omega.{arith}
 use borrow.Author.Tests.{ne_eqb}
-use lib.Dec.{eqb}
 use lib.ListN.{replicate}
-use Rattle.bits.specs.Lists.{pick, at}
 use Rattle.message.proofs.Filling.{filled_none, filled_more, filled_to, filled_all}
-use Rattle.message.proofs.records.data_of.Invariants.{bytes}
 use Rattle.message.proofs.records.data_of.Goals as goal
 
 pub loop-i-init : goal.loop-i-init

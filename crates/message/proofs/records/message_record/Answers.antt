@@ -31,11 +31,11 @@ returns-in-0 c = rw c.in-0.is (ap (λ (x : Null). case.Null x) c.null_of.ensures
 
 pub returns-in_default : goal.returns-in_default
 returns-in_default c = rw (
-      ne_eqb c.args.id 5 (omega arith),
-      ne_eqb c.args.id 7 (omega arith),
-      ne_eqb c.args.id 9 (omega arith),
-      ne_eqb c.args.id 11 (omega arith),
-      ne_eqb c.args.id 26 (omega arith),
-      ne_eqb c.args.id 0 (omega arith),
-    )
+  ne_eqb c.args.id 5 (omega arith),
+  ne_eqb c.args.id 7 (omega arith),
+  ne_eqb c.args.id 9 (omega arith),
+  ne_eqb c.args.id 11 (omega arith),
+  ne_eqb c.args.id 26 (omega arith),
+  ne_eqb c.args.id 0 (omega arith),
+)
     (ap (λ (x : Unread). case.Unread x) c.unread_of.ensures)
