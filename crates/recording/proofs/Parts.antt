@@ -71,7 +71,7 @@ module _ (whole r : Bor (List ℕ)) (from : ℕ) (p : PartOf whole (found_from w
   pub too_long : 65536 < length whole.now → (given ≡ refused) × (r.ref_ptr ≡ whole.ref_ptr) × (r.now ≡ [])
   too_long h =
       let e : given ≡ refused = found_refused whole.now from h in
-      (e, (rw e at p.lies) ∙ ap (λ (o : ℕ). (whole.ptr.0, o)) (zero-add whole.ptr.1), rw e at p.holds)
+      (e, (rw e at p.lies) ∙ ap (λ (o : ℕ). (whole.ref_ptr.0, o)) (zero-add whole.ref_ptr.1), rw e at p.holds)
 
   -- with none left, 4, and the empty part at the end
   pub none_left : given.number ≡ 4

@@ -16,6 +16,7 @@ pub struct Found {
 }
 
 // The first window at or after a place.
+#[tactic(auto, using(crate::proofs::Search::found_refused, crate::proofs::Search::found_none, crate::proofs::Search::first_none))]
 pub fn find(recording: &[u8], from: usize) -> Found
     ensures { result ≡ found_from recording.now from }
 {

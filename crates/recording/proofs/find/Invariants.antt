@@ -3,7 +3,6 @@
 use mathlib.Core.Path.{◌≡◌}
 use Prim.Native.Nat.{◌-◌, ◌≤◌}
 use lib.ListN.{length}
-use Rattle.framing.specs.contracts.Polarity as P
 use Rattle.recording.specs.Walk.{first_from}
 use Rattle.recording.proofs.find.Given as goal
 
