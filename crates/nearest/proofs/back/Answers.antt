@@ -16,15 +16,6 @@ bit_in c =
 pub loop-t-init : goal.loop-t-init
 loop-t-init c = way_first c.requires.marks_len.1
 
-pub kept-k-requires : goal.kept-k-requires
-kept-k-requires c = (omega arith, c.loop-t.invariant.state, c.requires.marks_len.0)
-
-pub overflow_mul-s : goal.overflow_mul-s
-overflow_mul-s c = omega (arith, bit_in (goal.at.overflow_mul-s c).In-loop-t, c.wide.ensures, c.kept-k.ensures)
-
-pub overflow_add-s : goal.overflow_add-s
-overflow_add-s c = omega (arith, bit_in (goal.at.overflow_add-s c).In-loop-t, c.wide.ensures, c.kept-k.ensures)
-
 pub loop-t-preserved : goal.loop-t-preserved
 loop-t-preserved c = let e : c.loop-t.t ≡ suc (c.loop-t.t - 1) = omega arith in
     let k = c.kept-k.ensures in

@@ -1,24 +1,12 @@
-use mathlib.Core.Path.{◌≡◌, ap}
+use mathlib.Core.Path.{ap}
 use Prim.Native.Nat.{ℕ, ◌-◌}
 use native.Mathlib.Omega.{arith}
 use Rattle.bits.specs.Lists.{at}
 use Rattle.nearest.proofs.Blocks.{blocks_first, low, small, under, blocks_more, shorter}
 use Rattle.nearest.proofs.forward.Goals as goal
 
-pub table-evenToll-requires : goal.table-evenToll-requires
-table-evenToll-requires c = c.requires.0.price
-
-pub overflow_mul-m : goal.overflow_mul-m
-overflow_mul-m c = omega (arith, c.requires.0.price)
-
 pub loop-t-init : goal.loop-t-init
 loop-t-init c = blocks_first c.requires.1
-
-pub overflow_mul-p : goal.overflow_mul-p
-overflow_mul-p c = omega (arith, c.requires.0.price)
-
-pub overflow_sub-d : goal.overflow_sub-d
-overflow_sub-d c = omega (arith, c.less.ensures)
 
 pub overflow_add-base : goal.overflow_add-base
 overflow_add-base c = omega (arith, c.wide16-base.ensures, small c.loop-t.invariant c.requires.0.price)
@@ -36,12 +24,6 @@ block-m-requires c = let a = c.requires in
       marks_len = (v.long, v.marked, a.2);
     }
 
-pub overflow_add-t : goal.overflow_add-t
-overflow_add-t c = omega (arith, c.fewer-n.ensures)
-
-pub loop-t-smaller : goal.loop-t-smaller
-loop-t-smaller c = omega (arith, c.fewer-n.ensures, c.requires.0.six)
-
 pub loop-t-preserved : goal.loop-t-preserved
 loop-t-preserved c = let f = c.fewer-n.ensures in
     let d = ap (λ (k : ℕ). at c.loop-t.m 0 - k) c.less.ensures in
@@ -51,8 +33,3 @@ loop-t-preserved c = let f = c.fewer-n.ensures in
 
 pub overflow_add-result : goal.overflow_add-result
 overflow_add-result c = omega (arith, c.wide16.ensures, small c.loop-t.invariant c.requires.0.price)
-
-pub returns : goal.returns
-returns c = let e : c.loop-t.t ≡ 292 = omega arith in
-    let v = c.loop-t.invariant in
-    (omega (arith, c.wide16.ensures, (rw e at v.held).each 0 (omega arith)), rw e at v.marked)

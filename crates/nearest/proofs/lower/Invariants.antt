@@ -9,6 +9,3 @@ use Rattle.nearest.proofs.lower.Given as goal
 
 abbrev pub invariant-loop-s : goal.invariant-loop-s
 invariant-loop-s l = (l.s ≤ 64) × (length l.initial.n ≡ 64) × Put (λ (k : ℕ). at l.m k - l.d) 0 l.s l.initial.n l.n
-
-abbrev pub decreases-loop-s : goal.decreases-loop-s
-decreases-loop-s l = 64 - l.s

@@ -1,7 +1,6 @@
 use mathlib.Core.Path.{◌≡◌}
 use Prim.Native.Nat.{◌+◌, ◌*◌}
 use native.Mathlib.Omega.{arith}
-use Rattle.bits.proofs.Fill.{put_none}
 use Rattle.bits.specs.Lists.{at}
 use Rattle.convolution.specs.Trellis.{toll}
 use Rattle.nearest.proofs.Fly.{fly, even_metric, odd_metric, even_mark, odd_mark, row_at, halves_more, small}
@@ -16,14 +15,6 @@ toll_in : (c : In-loop-j)
 toll_in c =
     let pre = c.requires.p_bound in
     row_at _ _ _ _ _ _ pre.0 pre.1 c.loop-j.invariant.row c.loop-j-test.true
-
-pub loop-j-init : goal.loop-j-init
-loop-j-init c = record {
-  upto = omega arith;
-  row = omega (arith, c.wide.ensures, c.less.ensures, c.wide-2.ensures, c.less-2.ensures);
-  nexts = record { evens = put_none _ _ _; odds = put_none _ _ _ };
-  marks = record { evens = put_none _ _ _; odds = put_none _ _ _ };
-}
 
 pub butterfly-f-requires : goal.butterfly-f-requires
 butterfly-f-requires c = small _ _ _ _ c.args.m.now c.requires.p_bound.0 c.loop-j-test.true (toll_in (goal.at.butterfly-f-requires c).In-loop-j) c.requires.p_bound.2

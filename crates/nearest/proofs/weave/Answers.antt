@@ -1,11 +1,8 @@
 use mathlib.Core.Path.{◌≡◌}
 use Prim.Native.Nat.{◌+◌}
 use native.Mathlib.Omega.{arith}
-use Rattle.bits.proofs.Fill.{put_none, put_two}
+use Rattle.bits.proofs.Fill.{put_two}
 use Rattle.nearest.proofs.weave.Goals as goal
-
-pub loop-j-init : goal.loop-j-init
-loop-j-init c = (omega arith, λ f w. put_none _ _ _)
 
 pub loop-j-preserved : goal.loop-j-preserved
 loop-j-preserved c = let i = c.loop-j in
