@@ -25,7 +25,7 @@ sound_only r e = go (towc_refused (towc_in r)) refl e
   where
     go : (t : Bool) → towc_refused (towc_in r) ≡ t → pick t false (eqb (record_fault r nothing) 0) ≡ true → Sound r
     go true q f = absurd (let z : ◌≡◌ {A = ℕ} 0 1 = (cc) in omega arith)
-    go false q f = let k = taken (towc_in r) q in record { early = k.0; late = k.1; held = eqb-true (record_fault r nothing) 0 f }
+    go false q f = let k = taken (towc_in r) q in record { early = omega (arith, k.0); late = omega (arith, k.1); held = eqb-true (record_fault r nothing) 0 f }
 
 sound_if : (r : Record) → Sound r → sound r ≡ true
 unfolding sound

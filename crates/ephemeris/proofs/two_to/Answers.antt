@@ -1,18 +1,16 @@
 -- `ephemeris::two_to` meets its contract: e + 1023 is the number `biased e`, whose power is 2 ^ e.
 -- Assumes nothing.
-use mathlib.Core.Path.{◌≡◌, sym, ap, ◌∙◌, subst}
-use Prim.Native.Nat.{◌<◌}
+use mathlib.Core.Path.{◌≡◌, ap, ◌∙◌}
 use native.Mathlib.Nat.{lt_of_lt_of_le}
 use lib.IntN.{ℤ, pos, nat_abs, ◌+ℤ◌}
-use lib.Dec.{T, lit≤}
-use lib.Signed.{non_neg}
+use lib.Dec.{lit≤}
 use lib.Ieee.{fin, minus}
 use mathlib.Core.Bool.{false}
-use mir.Syntax.{w32, w64}
-use mir.Val.{Fits, SFits, to_z, of_z}
+use mir.Syntax.{w32}
+use mir.Val.{SFits, to_z, of_z}
 use mir.ValLaws.{to_z-of_z}
 use Rattle.ephemeris.specs.Scales.{Near}
-use Rattle.ephemeris.proofs.Biased.{biased, biased_is, biased_pos, biased_lt, biased_back}
+use Rattle.ephemeris.proofs.Biased.{biased, biased_is, biased_lt, biased_back}
 use Rattle.ephemeris.proofs.two_to.Goals as goal
 
 -- the machine's sum, and that sum read back from its bits
@@ -24,17 +22,6 @@ below e h = record { sfits = lt_of_lt_of_le (biased_lt e h) (lit≤ tt) }
 
 again : (e : ℤ) → SFits w32 e → Near e → to_z w32 (of_z w32 (to_z w32 (of_z w32 e) +ℤ pos 1023)) ≡ pos (biased e)
 again e f h = ap (λ (z : ℤ). to_z w32 (of_z w32 z)) (sum_is e f h) ∙ to_z-of_z w32 (pos (biased e)) (below e h)
-
-pub overflow_add-e : goal.overflow_add-e
-overflow_add-e c = subst (λ (z : ℤ). SFits w32 z) (sym (sum_is c.args.e c.ranges.e c.requires)) (below c.args.e c.requires)
-
-pub overflow_cast-e : goal.overflow_cast-e
-overflow_cast-e c = subst (λ (z : ℤ). T (non_neg z) × Fits w64 (nat_abs z)) (sym (again c.args.e c.ranges.e c.requires))
-    (tt, record { fits = lt_of_lt_of_le (biased_lt c.args.e c.requires) (lit≤ tt) })
-
-pub power-requires : goal.power-requires
-power-requires c = subst (λ (z : ℤ). (0 < nat_abs z) × (nat_abs z < 2047)) (sym (again c.args.e c.ranges.e c.requires))
-    (biased_pos c.args.e c.requires, biased_lt c.args.e c.requires)
 
 pub returns : goal.returns
 returns c = c.power.ensures
