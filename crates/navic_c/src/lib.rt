@@ -18,7 +18,7 @@ mod lent;
 
 // What the writer answers: the paper's number, or 1 for a list that is not of 42 numbers; and beside 8 the first bit of the lowest field at fault.
 #[repr(C)]
-#[derive(Drop)]
+#[derive(Clone, Copy)]
 pub struct Written {
     pub refusal: u32,
     pub first_bit: u32,
@@ -26,7 +26,7 @@ pub struct Written {
 
 // The second at which a subframe began, or 7 and 0.
 #[repr(C)]
-#[derive(Drop)]
+#[derive(Clone, Copy)]
 pub struct Began {
     pub refusal: u32,
     pub second: u32,
@@ -34,7 +34,7 @@ pub struct Began {
 
 // The count of the subframe in which a second lies, or 7 and 0.
 #[repr(C)]
-#[derive(Drop)]
+#[derive(Clone, Copy)]
 pub struct Counted {
     pub refusal: u32,
     pub towc: u32,
@@ -42,7 +42,7 @@ pub struct Counted {
 
 // What the decoder alone answers: 0, 1, 2 or 3, and the corrected count.
 #[repr(C)]
-#[derive(Drop)]
+#[derive(Clone, Copy)]
 pub struct Decoded {
     pub refusal: u32,
     pub corrected: u32,
@@ -87,7 +87,7 @@ pub extern "C" fn navic_write(numbers: &[u64], symbols: &mut [u8]) -> Written
     let judged = given::judge(all);
     if judged.refusal == 0 {
         let sent = given::symbols(all);
-        bytes::copy(&sent, symbols);
+        lent::copy_bytes(&sent, symbols);
     }
     judged
 }
