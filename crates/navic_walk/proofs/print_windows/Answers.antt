@@ -2,9 +2,8 @@
 -- Assumes nothing.
 use mathlib.Core.Path.{◌≡◌, sym, ◌∙◌}
 use mathlib.Core.List.{List}
-use Prim.Native.Nat.{ℕ, ◌-◌, ◌≤◌, ◌<◌}
+use Prim.Native.Nat.{ℕ, ◌≤◌, ◌<◌}
 use native.Mathlib.Omega.{arith}
-use borrow.Author.Rules.{rules}
 use borrow.Author.Tests.{le-leb, lt-leb}
 use lib.ListN.{length}
 use Rattle.navic.specs.declared.Numbers.{Numbers}
@@ -13,8 +12,7 @@ use Rattle.recording.specs.Walk.{found_from}
 use Rattle.recording.proofs.Search.{Outcome, too_many, window, no_more, found}
 use Rattle.navic_walk.specs.declared.Step.TheVariants.{Window, Closing}
 use Rattle.navic_walk.specs.Steps.{step_at, step_of, closing_of}
-use Rattle.navic_walk.proofs.print_windows.Statement.{statement}
-use Rattle.navic_walk.proofs.print_windows.Tie as tie
+use Rattle.navic_walk.proofs.print_windows.Goals as goal
 
 module _ (l : List ℕ) (from : ℕ) where
   closing : (n : ℕ) → step_of l from ≡ Closing n → n ≡ closing_of (length l)
@@ -35,43 +33,13 @@ module _ (l : List ℕ) (from : ℕ) where
       go f (window h a b w) e = let z : f.after ≡ after = (cc) in (omega arith, omega arith)
       go f (no_more h w) e = absurd (let z : ◌≡◌ {A = ℕ} 0 1 = (cc) in omega arith)
 
-abbrev invariant-loop : tie.invariant-loop
-invariant-loop recording from₀ from = from ≤ length recording
+pub returns-in-Closing : goal.returns-in-Closing
+returns-in-Closing g c = closing _ _ _ (sym c.step_from-step.ensures ∙ c.in-Closing.is)
 
-abbrev decreases-loop : tie.decreases-loop
-decreases-loop recording from₀ from = length recording - from
-
-loop-holds : tie.Need-loop-init invariant-loop decreases-loop
-loop-holds c = omega arith
-
-step-from-requires : tie.Need-step-from-requires invariant-loop decreases-loop
-step-from-requires c κs = tt
-
-returns : tie.Need-returns invariant-loop decreases-loop
-returns c = closing _ _ _ (sym c.before.before.before.step_from.ensures ∙ c.before.step.given.1)
-
-print-window-requires : tie.Need-print-window-requires invariant-loop decreases-loop
-print-window-requires c κs = tt
-
-loop-less : tie.Need-loop-smaller invariant-loop decreases-loop
-loop-less c =
-    let o = onward _ _ _ _ _ (sym c.before.before.before.before.step_from.ensures ∙ c.before.before.step2.given.1) in
+pub loop-number-smaller : goal.loop-number-smaller
+loop-number-smaller g c =
+    let o = onward _ _ _ _ _ (sym c.step_from-step.ensures ∙ c.in-Window.is) in
     omega arith
 
-loop-again : tie.Need-loop-preserved invariant-loop decreases-loop
-loop-again c = (onward _ _ _ _ _ (sym c.before.before.before.before.step_from.ensures ∙ c.before.before.step2.given.1)).1
-
-pub print_windows_spec : {M : Type 1} → statement M
-print_windows_spec =
-    tie.close
-    (tie.spec
-    invariant-loop
-    decreases-loop
-    loop-holds
-    step-from-requires
-    (λ c. search rules)
-    returns
-    (λ c. search rules)
-    print-window-requires
-    loop-less
-    loop-again)
+pub loop-number-preserved : goal.loop-number-preserved
+loop-number-preserved g c = (onward _ _ _ _ _ (sym c.step_from-step.ensures ∙ c.in-Window.is)).1

@@ -4,7 +4,6 @@ use mathlib.Core.Path.{◌≡◌, refl, ap, ◌∙◌}
 use mathlib.Core.List.{List}
 use Prim.Native.Nat.{ℕ, ◌-◌}
 use native.Mathlib.Omega.{arith}
-use borrow.Author.Rules.{rules}
 use borrow.Author.Tests.{eq-eqb, ne_eqb}
 use Rattle.bits.specs.Lists.{part}
 use Rattle.navic.specs.declared.Numbers.{Numbers}
@@ -15,8 +14,7 @@ use Rattle.recording.proofs.Parts.{inside_of}
 use Rattle.recording.proofs.Search.{forward}
 use Rattle.navic_walk.specs.declared.Step.TheVariants.{Window, Closing}
 use Rattle.navic_walk.specs.Steps.{step_at, step_of}
-use Rattle.navic_walk.proofs.step_from.Statement.{statement}
-use Rattle.navic_walk.proofs.step_from.Tie as tie
+use Rattle.navic_walk.proofs.step_from.Goals as goal
 
 module _ (l : List ℕ) (from : ℕ) (f : Found) (e : f ≡ found_from l from) where
   closes : (f.number ≡ 0 → ⊥) → Closing f.number ≡ step_of l from
@@ -29,25 +27,19 @@ module _ (l : List ℕ) (from : ℕ) (f : Found) (e : f ≡ found_from l from) w
       let n : f.after - f.start ≡ 600 = omega (arith, (rw (← e) at (forward l from)) h) in
       rw (← e, eq-eqb f.number 0 h, n) refl
 
-returns : tie.Need-returns
-returns c = closes _ _ _ c.before.before.find.ensures c.if1.true
+pub returns-then-found-ne0 : goal.returns-then-found-ne0
+returns-then-found-ne0 c = closes _ _ _ c.find-found.ensures c.if-found-ne0.true
 
-sub-line : tie.Need-overflow-sub-line
-sub-line c = let i = inside_of _ _ c.before.before.find.ensures in omega arith
+pub slice_bounds-line-count : goal.slice_bounds-line-count
+slice_bounds-line-count c = let i = inside_of _ _ c.find-found.ensures in omega arith
 
-part-line-start : tie.Need-slice-bounds-line-start
-part-line-start c = let i = inside_of _ _ c.before.before.find.ensures in omega arith
+pub slice_bounds-line-start : goal.slice_bounds-line-start
+slice_bounds-line-start c = let i = inside_of _ _ c.find-found.ensures in omega arith
 
-part-line-end : tie.Need-slice-bounds-line-end
-part-line-end c = let i = inside_of _ _ c.before.before.find.ensures in omega arith
+pub slice_bounds-line-end : goal.slice_bounds-line-end
+slice_bounds-line-end c = let i = inside_of _ _ c.find-found.ensures in omega arith
 
-returns-2 : tie.Need-returns-2
-returns-2 c =
-    let found = c.before.before.before.before.find in
-    ap (λ (x : Numbers). Window found.result.start found.result.after x) c.line.ensures
-    ∙ stands _ _ _ found.ensures c.before.before.if1.false
-
-pub step_from_spec : {M : Type 1} → statement M
-step_from_spec =
-    tie.close
-    (tie.spec (λ c κs. search rules) returns sub-line part-line-start part-line-end (λ c κs. search rules) returns-2)
+pub returns : goal.returns
+returns c = let found = c.find-found in
+    ap (λ (x : Numbers). Window found.result.start found.result.after x) c.line-line.ensures
+    ∙ stands _ _ _ found.ensures c.if-found-ne0.false

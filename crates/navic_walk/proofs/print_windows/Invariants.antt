@@ -1,0 +1,9 @@
+-- The walk goes forward by each window and never past the recording's end. Assumes nothing.
+use Rattle.std.proofs.Common.{◌≤◌, ◌-◌, length}
+use Rattle.navic_walk.proofs.print_windows.Given as goal
+
+abbrev pub invariant-loop-number : goal.invariant-loop-number
+invariant-loop-number g l = l.from ≤ length l.recording
+
+abbrev pub decreases-loop-number : goal.decreases-loop-number
+decreases-loop-number g l = length l.recording - l.from
