@@ -23,6 +23,7 @@ use Rattle.message.specs.Records.{layout_of, numbers_of}
 use Rattle.message.proofs.Laws.{numbers_long}
 use Rattle.navic.specs.declared.Reading as navic
 use Rattle.navic.specs.declared.Reading.TheVariants as reading
+use Rattle.navic.specs.declared.Numbers.{Numbers}
 use Rattle.navic.specs.declared.Quality.{Quality}
 use Rattle.navic.specs.declared.Readout.{Readout}
 use Rattle.demands.specs.Family.{Reading, done, refused, not_of_600, little_room, bad_symbol, no_sync, no_word, is_idle, bad_check, bad_time, reading_of, after_reading, read_into, writing_of, write_into, symbols_of}
@@ -32,7 +33,7 @@ use Rattle.navic.proofs.Packing.{copied, copied_whole}
 use Rattle.navic_c.specs.declared.Written.{Written}
 use Rattle.navic_c.specs.declared.Decoded.{Decoded}
 use Rattle.navic_c.specs.Numbers.{padded, refusal, beside, numbered}
-use Rattle.navic_c.specs.Calls.{read_from, word_after, numbers_after, numbers_by, written_of, nearest_answer, nearest_into}
+use Rattle.navic_c.specs.Calls.{int64, line_of_numbers, read_from, word_after, numbers_after, numbers_by, written_of, nearest_answer, nearest_into}
 use Rattle.navic_c.proofs.ReadAsRecords.{as_numbers, reading_same}
 
 -- ---- the writer
@@ -45,6 +46,9 @@ module _ (zs : List ℤ) (lent : List ℕ) where
   unfolding written_of writing_of write_into
   too_little h = let e = lt-leb 600 (length lent) h in (rw e refl, rw e refl)
 
+  pub too_little_after : length lent < 600 → lent ≡ write_into numbered zs lent
+  too_little_after h = (too_little h).1
+
   module _ (enough : 600 ≤ length lent) where
     pub other_count : (length zs ≡ 42 → ⊥) → Answers (record { refusal = 1; first_bit = 0 }) lent
     unfolding written_of writing_of write_into refusal
@@ -55,18 +59,24 @@ module _ (zs : List ℤ) (lent : List ℕ) where
       unfolding written_of writing_of beside
       judged = rw (le-leb 600 (length lent) enough) (λ i. record { refusal = number i; first_bit = bit i })
 
-      pub refuses : (r.refusal ≡ 0 → ⊥) → Answers r lent
-      unfolding writing_of write_into
-      refuses h = (judged, rw (le-leb 600 (length lent) enough, ne_eqb (refusal zs) 0 (λ z. h (number ∙ z))) refl)
+-- ---- the writer, once its 42 numbers are copied
+module _ (ns all lent : List ℕ) (r : Written) (same : all ≡ ns) (enough : 600 ≤ length lent) (number : r.refusal ≡ refusal (int64 all)) where
+  pub judged_value : r.first_bit ≡ beside (int64 all) → r ≡ written_of (int64 ns) (length lent)
+  judged_value bit = judged (int64 ns) lent enough r (number ∙ ap (λ (l : List ℕ). refusal (int64 l)) same) (bit ∙ ap (λ (l : List ℕ). beside (int64 l)) same)
 
-      pub writes : (sent later : List ℕ) → r.refusal ≡ 0 → sent ≡ symbols_of numbered zs → later ≡ take (length sent) sent ++ drop (length sent) lent → Answers r later
-      unfolding writing_of write_into symbols_of
-      writes sent later z e put =
-          let long : length sent ≡ 600 = ap length e ∙ sent_long _ in (
-            judged,
-            rw (le-leb 600 (length lent) enough, eq-eqb (refusal zs) 0 (sym number ∙ z))
-                (put ∙ ap₂ ◌++◌ (take_all (length sent) sent (omega arith) ∙ e) (ap (λ (k : ℕ). drop k lent) long)),
-          )
+  pub kept_after : (r.refusal ≡ 0 → ⊥) → lent ≡ write_into numbered (int64 ns) lent
+  unfolding writing_of write_into
+  kept_after h =
+      rw (le-leb 600 (length lent) enough, ne_eqb (refusal (int64 ns)) 0 (λ z. h (number ∙ ap (λ (l : List ℕ). refusal (int64 l)) same ∙ z))) refl
+
+  pub sent_after : (sent later : List ℕ) → r.refusal ≡ 0 → sent ≡ symbols_of numbered (int64 all)
+      → later ≡ take (length sent) sent ++ drop (length sent) lent → later ≡ write_into numbered (int64 ns) lent
+  unfolding writing_of write_into symbols_of
+  sent_after sent later z e put =
+      let f = e ∙ ap (λ (l : List ℕ). symbols_of numbered (int64 l)) same in
+      let long : length sent ≡ 600 = ap length f ∙ sent_long _ in
+      rw (le-leb 600 (length lent) enough, eq-eqb (refusal (int64 ns)) 0 (sym (number ∙ ap (λ (l : List ℕ). refusal (int64 l)) same) ∙ z))
+      (put ∙ ap₂ ◌++◌ (take_all (length sent) sent (omega arith) ∙ f) (ap (λ (k : ℕ). drop k lent) long))
 
 -- ---- the reader, lent too few numbers
 module _ (s word ns : List ℕ) where
@@ -81,6 +91,9 @@ module _ (s word ns : List ℕ) where
     pub few_read : read_from s (length word) (length ns) ≡ reading_of numbered s 0
     unfolding read_from
     few_read = rw (lt-leb 42 (length ns) h) refl
+
+    pub few_value : (v : Numbers) → v ≡ line_of_numbers (reading_of numbered s 0) → v ≡ line_of_numbers (read_from s (length word) (length ns))
+    few_value v e = e ∙ sym (ap line_of_numbers few_read)
 
     pub few_word : word ≡ word_after s word (length ns)
     unfolding word_after
@@ -179,6 +192,9 @@ module _ (coded lent : List ℕ) where
     pub word_room : length lent < 286 → Decodes (record { refusal = 2; corrected = 0 }) lent
     unfolding nearest_answer nearest_into
     word_room h = let e = eq-eqb (length coded) 584 long in let f = lt-leb 286 (length lent) h in (rw (e, f) refl, rw (e, f) refl)
+
+    pub word_room_after : length lent < 286 → lent ≡ nearest_into coded lent
+    word_room_after h = (word_room h).1
 
     module _ (enough : 286 ≤ length lent) where
       pub bad_symbol_lem : at_most 1 coded ≡ false → Decodes (record { refusal = 3; corrected = 0 }) lent

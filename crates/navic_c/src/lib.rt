@@ -49,6 +49,7 @@ pub struct Decoded {
 }
 
 // Reads 600 symbols. Done, the word's bits are put into the first 36 bytes of `word` and the record's numbers into the first 42 of `numbers`.
+#[tactic(auto, using(crate::proofs::Answered::few_value, crate::proofs::Answered::few_word, crate::proofs::Answered::few_numbers))]
 #[unsafe(no_mangle)]
 pub extern "C" fn navic_read(symbols: &[u8], word: &mut [u8], numbers: &mut [u64]) -> Numbers
     ensures value { result ≡ line_of_numbers (read_from symbols.now (length word.old) (length numbers.old)) }
@@ -66,6 +67,7 @@ pub extern "C" fn navic_read(symbols: &[u8], word: &mut [u8], numbers: &mut [u64
 }
 
 // Writes a record as 600 upright symbols.
+#[tactic(auto, using(crate::proofs::Answered::too_little, crate::proofs::Answered::too_little_after))]
 #[unsafe(no_mangle)]
 pub extern "C" fn navic_write(numbers: &[u64], symbols: &mut [u8]) -> Written
     ensures value { result ≡ written_of (int64 numbers.now) (length symbols.old) }
@@ -85,7 +87,8 @@ pub extern "C" fn navic_write(numbers: &[u64], symbols: &mut [u8]) -> Written
     }
     let all = given::forty_two(numbers);
     let judged = given::judge(all);
-    if judged.refusal == 0 {
+    let accepted = judged.refusal == 0;
+    if accepted {
         let sent = given::symbols(all);
         lent::copy_bytes(&sent, symbols);
     }
@@ -160,6 +163,7 @@ pub extern "C" fn navic_count_in(second: u32) -> Counted
 }
 
 // The word nearest to 584 coded symbols, its 286 bits a byte each, and how many symbols its code differs in.
+#[tactic(auto, using(crate::proofs::Answered::word_room, crate::proofs::Answered::word_room_after))]
 #[unsafe(no_mangle)]
 pub extern "C" fn navic_nearest(coded: &[u8], word: &mut [u8]) -> Decoded
     ensures value { result ≡ nearest_answer coded.now (length word.old) }

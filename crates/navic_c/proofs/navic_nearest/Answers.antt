@@ -1,6 +1,6 @@
 -- Length, room, symbols, and then the decoder. Assumes nothing.
 use mathlib.Core.Path.{sym, ◌∙◌}
-use Rattle.navic_c.proofs.Answered.{not_584, word_room, bad_symbol_lem, decoded}
+use Rattle.navic_c.proofs.Answered.{not_584, bad_symbol_lem, decoded}
 use Rattle.navic_c.proofs.navic_nearest.Goals as goal
 
 pub returns-then-coded-ne584 : goal.returns-then-coded-ne584
@@ -8,13 +8,6 @@ returns-then-coded-ne584 c =
     let a = c.args in
     let both =
     not_584 a.coded.now a.word.now c.if-coded-ne584.true in
-    record { value = both.0; word_after = both.1 }
-
-pub returns-then-word-lt286 : goal.returns-then-word-lt286
-returns-then-word-lt286 c =
-    let a = c.args in
-    let both =
-    word_room a.coded.now a.word.now c.if-coded-ne584.false c.if-word-lt286.true in
     record { value = both.0; word_after = both.1 }
 
 pub returns-then-clean : goal.returns-then-clean

@@ -5,18 +5,8 @@ use Rattle.navic.specs.declared.Readout.{Readout}
 use Rattle.navic.specs.Navic as navic
 use Rattle.navic_c.specs.Calls.{line_of_numbers, numbers_after}
 use Rattle.navic_c.proofs.ReadAsRecords.{line_read}
-use Rattle.navic_c.proofs.Answered.{few_read, few_word, few_numbers, enough_read, enough_word, numbers_lent}
+use Rattle.navic_c.proofs.Answered.{enough_read, enough_word, numbers_lent}
 use Rattle.navic_c.proofs.navic_read.Goals as goal
-
-pub returns-then-numbers-lt42 : goal.returns-then-numbers-lt42
-returns-then-numbers-lt42 c = let a = c.args in
-    let s = a.symbols.now in
-    let few = c.if-numbers-lt42.true in
-    record {
-      value = c.no_room.ensures ∙ sym (ap line_of_numbers (few_read s a.word.now a.numbers.now few));
-      word_after = few_word s a.word.now a.numbers.now few;
-      numbers_after = few_numbers s a.word.now a.numbers.now few;
-    }
 
 pub returns : goal.returns
 returns c = let a = c.args in
