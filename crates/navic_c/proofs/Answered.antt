@@ -33,7 +33,7 @@ use Rattle.navic.proofs.Packing.{copied, copied_whole}
 use Rattle.navic_c.specs.declared.Written.{Written}
 use Rattle.navic_c.specs.declared.Decoded.{Decoded}
 use Rattle.navic_c.specs.Numbers.{padded, refusal, beside, numbered}
-use Rattle.navic_c.specs.Calls.{int64, line_of_numbers, read_from, word_after, numbers_after, numbers_by, written_of, nearest_answer, nearest_into}
+use Rattle.navic_c.specs.Calls.{line_of_numbers, read_from, word_after, numbers_after, numbers_by, written_of, nearest_answer, nearest_into}
 use Rattle.navic_c.proofs.ReadAsRecords.{as_numbers, reading_same}
 
 -- ---- the writer
@@ -59,24 +59,18 @@ module _ (zs : List ℤ) (lent : List ℕ) where
       unfolding written_of writing_of beside
       judged = rw (le-leb 600 (length lent) enough) (λ i. record { refusal = number i; first_bit = bit i })
 
--- ---- the writer, once its 42 numbers are copied
-module _ (ns all lent : List ℕ) (r : Written) (same : all ≡ ns) (enough : 600 ≤ length lent) (number : r.refusal ≡ refusal (int64 all)) where
-  pub judged_value : r.first_bit ≡ beside (int64 all) → r ≡ written_of (int64 ns) (length lent)
-  judged_value bit = judged (int64 ns) lent enough r (number ∙ ap (λ (l : List ℕ). refusal (int64 l)) same) (bit ∙ ap (λ (l : List ℕ). beside (int64 l)) same)
+      pub refuses : (r.refusal ≡ 0 → ⊥) → Answers r lent
+      unfolding writing_of write_into
+      refuses h = (judged, rw (le-leb 600 (length lent) enough, ne_eqb (refusal zs) 0 (λ z. h (number ∙ z))) refl)
 
-  pub kept_after : (r.refusal ≡ 0 → ⊥) → lent ≡ write_into numbered (int64 ns) lent
-  unfolding writing_of write_into
-  kept_after h =
-      rw (le-leb 600 (length lent) enough, ne_eqb (refusal (int64 ns)) 0 (λ z. h (number ∙ ap (λ (l : List ℕ). refusal (int64 l)) same ∙ z))) refl
-
-  pub sent_after : (sent later : List ℕ) → r.refusal ≡ 0 → sent ≡ symbols_of numbered (int64 all)
-      → later ≡ take (length sent) sent ++ drop (length sent) lent → later ≡ write_into numbered (int64 ns) lent
-  unfolding writing_of write_into symbols_of
-  sent_after sent later z e put =
-      let f = e ∙ ap (λ (l : List ℕ). symbols_of numbered (int64 l)) same in
-      let long : length sent ≡ 600 = ap length f ∙ sent_long _ in
-      rw (le-leb 600 (length lent) enough, eq-eqb (refusal (int64 ns)) 0 (sym (number ∙ ap (λ (l : List ℕ). refusal (int64 l)) same) ∙ z))
-      (put ∙ ap₂ ◌++◌ (take_all (length sent) sent (omega arith) ∙ f) (ap (λ (k : ℕ). drop k lent) long))
+      pub writes : (sent later : List ℕ) → r.refusal ≡ 0 → sent ≡ symbols_of numbered zs → later ≡ take (length sent) sent ++ drop (length sent) lent → Answers r later
+      unfolding writing_of write_into symbols_of
+      writes sent later z e put =
+          let long : length sent ≡ 600 = ap length e ∙ sent_long _ in (
+            judged,
+            rw (le-leb 600 (length lent) enough, eq-eqb (refusal zs) 0 (sym number ∙ z))
+                (put ∙ ap₂ ◌++◌ (take_all (length sent) sent (omega arith) ∙ e) (ap (λ (k : ℕ). drop k lent) long)),
+          )
 
 -- ---- the reader, lent too few numbers
 module _ (s word ns : List ℕ) where

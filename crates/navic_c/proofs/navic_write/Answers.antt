@@ -1,10 +1,14 @@
 -- Room, count, and then what the numbers are. Assumes nothing.
-use mathlib.Core.Path.{sym, ◌∙◌}
+use mathlib.Core.Path.{sym, ap, ◌∙◌}
+use mathlib.Core.List.{List}
+use Prim.Native.Nat.{ℕ}
 use lib.ListN.{length-map}
 use mir.Syntax.{w64}
 use mir.Val.{to_z}
+use Rattle.demands.specs.Family.{symbols_of}
+use Rattle.navic_c.specs.Numbers.{refusal, beside, numbered}
 use Rattle.navic_c.specs.Calls.{int64}
-use Rattle.navic_c.proofs.Answered.{other_count, judged_value, kept_after, sent_after}
+use Rattle.navic_c.proofs.Answered.{other_count, refuses, writes}
 use Rattle.navic_c.proofs.navic_write.Goals as goal
 
 pub returns-then-numbers-ne42 : goal.returns-then-numbers-ne42
@@ -23,27 +27,25 @@ symbols-sent-requires c = c.forty_two-all.ensures.1
 pub returns-then-accepted : goal.returns-then-accepted
 returns-then-accepted c =
     let ns = c.args.numbers.now in
-    let all = c.forty_two-all.result in
-    let lent = c.args.symbols.now in
     let same = c.forty_two-all.ensures.0 in
     let judged = c.judge-judged in
-    let enough = c.if-symbols-lt600.false in
-    record {
-      value = judged_value ns all lent judged.result same enough judged.ensures.0 judged.ensures.1;
-      symbols_after =
-          sent_after ns all lent judged.result same enough judged.ensures.0 c.symbols-sent.result _ c.if-accepted.true c.symbols-sent.ensures
-          c.copy_bytes.ensures;
-    }
+    let both =
+    writes (int64 ns) c.args.symbols.now c.if-symbols-lt600.false judged.result
+    (judged.ensures.0 ∙ ap (λ (l : List ℕ). refusal (int64 l)) same)
+    (judged.ensures.1 ∙ ap (λ (l : List ℕ). beside (int64 l)) same)
+    c.symbols-sent.result _
+    c.if-accepted.true
+    (c.symbols-sent.ensures ∙ ap (λ (l : List ℕ). symbols_of numbered (int64 l)) same)
+    c.copy_bytes.ensures in
+    record { value = both.0; symbols_after = both.1 }
 
 pub returns-else-accepted : goal.returns-else-accepted
 returns-else-accepted c =
-    let ns = c.args.numbers.now in
-    let all = c.forty_two-all.result in
-    let lent = c.args.symbols.now in
     let same = c.forty_two-all.ensures.0 in
     let judged = c.judge-judged in
-    let enough = c.if-symbols-lt600.false in
-    record {
-      value = judged_value ns all lent judged.result same enough judged.ensures.0 judged.ensures.1;
-      symbols_after = kept_after ns all lent judged.result same enough judged.ensures.0 c.if-accepted.false;
-    }
+    let both =
+    refuses (int64 c.args.numbers.now) c.args.symbols.now c.if-symbols-lt600.false judged.result
+    (judged.ensures.0 ∙ ap (λ (l : List ℕ). refusal (int64 l)) same)
+    (judged.ensures.1 ∙ ap (λ (l : List ℕ). beside (int64 l)) same)
+    c.if-accepted.false in
+    record { value = both.0; symbols_after = both.1 }
