@@ -2,8 +2,9 @@
 // navic_read prints for its 600 symbols; and then the walk's closing number.
 #![tactic(auto)]
 
-ghost use Rattle.std.specs.Prelude.{◌≡◌, IfOk, length};
+ghost use Rattle.std.specs.Prelude.{◌≡◌, ◌≤◌, IfOk, OnErr, length};
 ghost use Rattle.navic.specs.Navic.{answer, line_of};
+ghost use Rattle.recording.specs.Walk.{found_from};
 ghost use Rattle.navic_walk.specs.Steps.{step_of, closing_of};
 
 use navic::Numbers;
@@ -76,9 +77,11 @@ fn print_window(rt: &impl Print, place: usize, line: Numbers) -> io::Result<()> 
     )
 }
 
-// Prints the windows of a recording in turn; gives the closing number.
+// Prints the windows of a recording in turn; gives the closing number. An error is that of a failed write: it comes only where there is a window
+// to print, and no window is printed behind it.
 fn print_windows(rt: &impl Print, recording: &[u8]) -> io::Result<u8>
-    ensures { IfOk result (λ n. n ≡ closing_of (length recording.now)) }
+    ensures ok { IfOk result (λ n. n ≡ closing_of (length recording.now)) }
+    ensures err { OnErr result ((found_from recording.now 0).number ≡ 0) }
 {
     let mut from = 0;
     loop {
@@ -97,7 +100,8 @@ fn print_windows(rt: &impl Print, recording: &[u8]) -> io::Result<u8>
 #[tactic(auto, using(crate::proofs::Closing::too_long))]
 fn walk(rt: &impl Print, kept: &[u8], count: u64) -> io::Result<u8>
     requires { length kept.now ≡ 65536 }
-    ensures { IfOk result (λ n. n ≡ closing_of count) }
+    ensures ok { IfOk result (λ n. n ≡ closing_of count) }
+    ensures err { OnErr result (count ≤ 65536) }
 {
     if count > 65536 {
         return Ok(1);
