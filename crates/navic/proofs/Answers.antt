@@ -78,6 +78,14 @@ module _ (s : List ℕ) (lent : List ℕ) where
   unfolding answer
   room_is long h = sym (ap read_of (little_room_lem family s (length lent) long h))
 
+  -- the same as equations of what the contract names, for the search
+  pub room_answer : (room : ℕ) → length s ≡ 600 → room < 36 → answer s room ≡ refused_by reading.Room
+  unfolding answer
+  room_answer room long h = ap read_of (little_room_lem family s room long h)
+
+  pub room_kept : length s ≡ 600 → length lent < 36 → lent_after_read s lent ≡ lent
+  room_kept long h = sym ((refused_is reading.Room (refused_by reading.Room) refl refl (room_is long h)).1)
+
   pub link_is : length s ≡ 600 → 36 ≤ length lent → (r : Received) → r ≡ receive_of 1 s → read_of (any.by_link family r.answer r.word) ≡ answer s (length lent)
   unfolding answer
   link_is long enough r e = sym (ap read_of (by_link_lem family s (length lent) long enough r (sym e)))

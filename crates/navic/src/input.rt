@@ -39,6 +39,7 @@ fn keep(kept: &mut [u8], n: u64, x: u8)
 }
 
 // Takes one byte, where n symbols came before it; gives the new count.
+#[tactic(auto, unfolding(crate::specs::Input::symbols_in, crate::specs::Input::kept_after, crate::specs::Input::count_after))]
 fn take_byte(kept: &mut [u8], n: u64, byte: u8) -> u64
     ensures { Gathered kept.old n (byte ∷ []) kept.new result }
 {

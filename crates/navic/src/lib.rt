@@ -129,6 +129,7 @@ fn lend(room: &mut [u8], word: &[u8; 286], done: bool)
 
 // Reads the 600 symbols of a subframe. Done, bits 1 to 286 are put into the first 36 bytes lent; what is lent beyond them stays, and all of it
 // beside a refusal.
+#[tactic(auto, using(crate::proofs::Answers::room_answer, crate::proofs::Answers::room_kept))]
 pub fn read(symbols: &[u8], room: &mut [u8]) -> Readout
     ensures value { result ≡ answer symbols.now (length room.old) }
     ensures room_after { room.new ≡ lent_after_read symbols.now room.old }
