@@ -2,8 +2,8 @@
  * navic.h - reader and writer of the navigation subframes of NavIC (IRNSS) on L5, by the ICD for SPS,
  * version 1.0, June 2014.
  *
- * Link with libnavic_c.a, which `rt staticlib navic_c` writes to target/staticlib, for x86-64; it needs the C
- * library and nothing else. The calls keep no state and take no memory but the caller's and the stack.
+ * Link with libnavic_c.a, which `rt lib` in crates/navic_c writes to out/ there, for x86-64 (x86-64-v2); it needs
+ * the C library and nothing else. The calls keep no state and take no memory but the caller's and the stack.
  *
  * Every call accepts every input and ends; what it can't do it refuses with a number of enum navic_refusal.
  * What the caller owes: no pointer is null (with a length of 0, any other pointer will do), each is good for

@@ -4,7 +4,7 @@
   header_against_table.py
 
 Reads the rows (first bit, width, sign, exponent of the scale) and the layouts out of crates/fields/specs/Table.antt and the
-fields' names and order out of the ..Fields functions of crates/message/specs/Numbers.antt. Every named row of the header must
+fields' names and order out of the .._fields functions of crates/message/specs/Numbers.antt. Every named row of the header must
 have that index, and its comment that first bit, width, sign and scale; no row may be left out, none may be there besides, and
 the constants must stand in the table's order. Prints a line for each difference and a closing line. The status is 1 where
 something differs.
@@ -18,7 +18,7 @@ HEADER = os.path.join(ROOT, "include/navic.h")
 TABLE = os.path.join(ROOT, "crates/fields/specs/Table.antt")
 NUMBERS = os.path.join(ROOT, "crates/message/specs/Numbers.antt")
 
-# the layout's prefix in the header; its fields are named by the function layoutFields
+# the layout's prefix in the header; its fields are named by the function LAYOUT_fields
 PREFIX = {"Subframe1": "SF1", "Subframe2": "SF2", "IonoGrid": "GRID", "Almanac": "ALM", "TimeOffsets": "OFFSETS", "EarthIono": "EOP", "Data": "DATA"}
 
 # what the functions take as a number of its own, and the head's spare bit, which has its place in its name
@@ -50,15 +50,15 @@ def table_rows(text, name):
 
 
 def layouts(text):
-    """The rows of each layout, as rowsOf and message put them together."""
-    if definition(text, "message rows") != "head ++ (messageId ∷ (rows ++ (prn ∷ [])))":
+    """The rows of each layout, as rows_of and message put them together."""
+    if definition(text, "message rows") != "head ++ (message_id ∷ (rows ++ (prn ∷ [])))":
         raise SystemExit("message is not what this script takes it for")
-    head, message_id, prn = (table_rows(text, name) for name in ("head", "messageId", "prn"))
+    head, message_id, prn = (table_rows(text, name) for name in ("head", "message_id", "prn"))
     found = {}
-    for layout, body in re.findall(r"^rowsOf (\w+) = (.*)$", text, re.M):
+    for layout, body in re.findall(r"^rows_of (\w+) = (.*)$", text, re.M):
         subframe, message = re.fullmatch(r"head \+\+ (\w+)", body), re.fullmatch(r"message (\w+)", body)
         if not subframe and not message:
-            raise SystemExit("rowsOf %s is not what this script takes it for" % layout)
+            raise SystemExit("rows_of %s is not what this script takes it for" % layout)
         found[layout] = head + table_rows(text, subframe.group(1)) if subframe else head + message_id + table_rows(text, message.group(1)) + prn
     if set(found) != set(PREFIX):
         raise SystemExit("the layouts are %s" % ", ".join(found))
@@ -66,16 +66,16 @@ def layouts(text):
 
 
 def field_names(text, function, own=None):
-    """The names of a ..Fields function in order, each with its sort; `own` names its numbers that are no part of a record."""
+    """The names of a .._fields function in order, each with its sort; `own` names its numbers that are no part of a record."""
     body = definition(text, function)
-    if "pairFields" in body:
-        pattern = r"listOf (\d+) \(λ i\. pick \(eqb \(i % 2\) 0\) \(Givei \(i / 2\)\) \(Givd \(i / 2\)\)\)"
-        count = int(re.fullmatch(pattern, definition(text, "pairFields")).group(1))
-        body = body.replace("pairFields", " ".join("%s·%d" % (("Givei", "Givd")[i % 2], i // 2) for i in range(count)))
-    data = re.fullmatch(r"listOf (\d+) \(λ k\. Byte k\)", body)
+    if "pair_fields" in body:
+        pattern = r"list_of (\d+) \(λ i\. pick \(eqb \(i % 2\) 0\) \(Givei \(i / 2\)\) \(Givd \(i / 2\)\)\)"
+        count = int(re.fullmatch(pattern, definition(text, "pair_fields")).group(1))
+        body = body.replace("pair_fields", " ".join("%s·%d" % (("Givei", "Givd")[i % 2], i // 2) for i in range(count)))
+    data = re.fullmatch(r"list_of (\d+) \(λ k\. Byte k\)", body)
     if data:
         body = " ".join("Byte·%d" % k for k in range(int(data.group(1))))
-    item = r"(Plain|Signed|Flag|WeekNumber|Wide) (?:\(\w+ \.«?(\w+?)»?(?: \.0)?\)|(\w+))|(Givei|Givd|Byte)·(\d+)"
+    item = r"(Plain|Signed|Flag|WeekNumber|Wide) (?:\w+\.«?(\w+?)»?(?:\.0)?|(\w+))(?![\w.»])|(Givei|Givd|Byte)·(\d+)"
     if re.sub(r"∷|\+\+|\[\]|[() ]|\bfields\b", "", re.sub(item, "", body)):
         raise SystemExit("%s has more than this script reads" % function)
     names = []
@@ -91,11 +91,11 @@ def field_names(text, function, own=None):
 def expected():
     """For each layout, the names and the rows that the header must have, in order."""
     table, numbers = read(TABLE), read(NUMBERS)
-    head = field_names(numbers, "headFields", HEAD_NAMES)
-    message_id, prn = field_names(numbers, "messageFields", MESSAGE_NAMES)
+    head = field_names(numbers, "head_fields", HEAD_NAMES)
+    message_id, prn = field_names(numbers, "message_fields", MESSAGE_NAMES)
     wanted = {}
     for layout, rows in layouts(table).items():
-        own = field_names(numbers, layout[0].lower() + layout[1:] + "Fields")
+        own = field_names(numbers, re.sub(r"(?<=[a-z])(?=[A-Z])", "_", layout).lower() + "_fields")
         prefixed = [("%s_%s" % (PREFIX[layout], name), sort) for name, sort in own]
         if not layout.startswith("Subframe"):
             prefixed = [message_id] + prefixed + [("%s_%s" % (PREFIX[layout], prn[0]), prn[1])]

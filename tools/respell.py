@@ -1,6 +1,7 @@
 #!/usr/bin/env python3
 """Brings the repository's own definitions and lemmas to the spelling that Rattle's library has: functions, lemmas, fields and constructors in
-snake case, types and modules in camel case. Run once at the top, after the kit's own script (docs/PORT.md says when):
+snake case, types and modules in camel case. It was run once at the top, after the kit's own script (docs/PORT.md says when); run again it would
+turn the names of goals too.
 
 usage: tools/respell.py [--list]
 

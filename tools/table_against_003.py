@@ -21,19 +21,19 @@ DEFINITION = os.path.join(ROOT, "crates/fields/specs/Table.antt")
 PARTS = {
     "subframe1": [("Table 11", "Figure 13")],
     "subframe2": [("Table 12", "Figure 14")],
-    "ionoGrid": [("Table 15", "Figure 15")],
+    "iono_grid": [("Table 15", "Figure 15")],
     "almanac": [("Table 16", "Figure 16")],
-    "timeOffsets": [("Table 17", "Figure 17"), ("Table 21", "Figure 21")],
-    "earthIono": [("Table 18", "Figure 18")],
+    "time_offsets": [("Table 17", "Figure 17"), ("Table 21", "Figure 21")],
+    "earth_iono": [("Table 18", "Figure 18")],
 }
 
 # the consts, each as the lists that it holds one behind the other
 CONSTS = {
-    "HEAD": ["head", "messageId", "prn"],
+    "HEAD": ["head", "message_id", "prn"],
     "SUBFRAMES": ["subframe1", "subframe2"],
-    "GRID": ["ionoGrid"],
-    "MESSAGES": ["almanac", "timeOffsets", "earthIono"],
-    "DATA": ["dataBytes"],
+    "GRID": ["iono_grid"],
+    "MESSAGES": ["almanac", "time_offsets", "earth_iono"],
+    "DATA": ["data_bytes"],
 }
 
 # a field that every subframe or every message has: the sentence of 5.9.1 on it, and its column in Figure 12
@@ -227,9 +227,9 @@ def main():
     expected = {name: [("%s and %s" % pair, part(lines, *pair)) for pair in pairs] for name, pairs in PARTS.items()}
     first, message_id, prn = head(lines)
     expected["head"] = [("5.9.1 and Figure 12", first)]
-    expected["messageId"] = [("5.9.1.7 and Figure 12", message_id)]
+    expected["message_id"] = [("5.9.1.7 and Figure 12", message_id)]
     expected["prn"] = [("5.9.1.8 and Figure 12", prn)]
-    expected["dataBytes"] = [("Figures 12 and 22", data(lines, message_id[0], prn[0]))]
+    expected["data_bytes"] = [("Figures 12 and 22", data(lines, message_id[0], prn[0]))]
     compared = differ = missed = 0
     lists, arrays = definitions(), consts()
     for name, sources in expected.items():

@@ -23,9 +23,9 @@ CALLS = [
 
 
 def builds(folder, given, call, result):
-    source = folder / "crates" / "tried" / "src" / "lib.rt"
-    source.write_text(f"pub fn tried(x: {given}) -> {result} {{\n    {call}\n}}\n")
-    out = subprocess.run(["rt", "check", "tried"], cwd=folder, capture_output=True, text=True)
+    tried = folder / "crates" / "tried"
+    (tried / "src" / "lib.rt").write_text(f"#![tactic(auto)]\n\npub fn tried(x: {given}) -> {result} {{\n    {call}\n}}\n")
+    out = subprocess.run(["rt", "check"], cwd=tried, stdin=subprocess.DEVNULL, capture_output=True, text=True)
     text = out.stdout + out.stderr
     return out.returncode == 0, "mismatched-types" in text, text
 
@@ -36,7 +36,7 @@ def main():
     with tempfile.TemporaryDirectory() as temp:
         folder = pathlib.Path(temp)
         for name in ("bits", "weektime"):
-            shutil.copytree(root / "crates" / name, folder / "crates" / name)
+            shutil.copytree(root / "crates" / name, folder / "crates" / name, ignore=shutil.ignore_patterns("out"))
         (folder / "crates" / "tried" / "src").mkdir(parents=True)
         (folder / "crates.txt").write_text("bits:\nweektime: bits\ntried: weektime\n")
         for call, wanted, result in CALLS:

@@ -1,5 +1,5 @@
 //! Finds the static library `navic_c` and has it linked: in the directory that NAVIC_C_LIB names, else in
-//! target/staticlib at the repository's root, where `rt staticlib navic_c` is run first if it isn't there yet.
+//! crates/navic_c/out of the repository, where `rt lib` is run first if it isn't there yet.
 
 use std::path::{Path, PathBuf};
 use std::process::{exit, Command};
@@ -26,35 +26,35 @@ fn given(directory: PathBuf) -> PathBuf {
     directory.canonicalize().unwrap_or(directory)
 }
 
-/// The directory that `rt staticlib` writes to, with the library in it.
+/// The directory that `rt lib` writes to, with the library in it.
 fn made() -> PathBuf {
     let crate_root = std::env::var_os("CARGO_MANIFEST_DIR").expect("cargo gives CARGO_MANIFEST_DIR");
-    let root = Path::new(&crate_root).join("../..");
-    let root = root.canonicalize().unwrap_or(root);
-    let directory = root.join("target/staticlib");
+    let folder = Path::new(&crate_root).join("../../crates/navic_c");
+    let folder = folder.canonicalize().unwrap_or(folder);
+    let directory = folder.join("out");
     if !directory.join(LIBRARY).is_file() {
-        make(&root);
+        make(&folder);
         if !directory.join(LIBRARY).is_file() {
-            stop(&format!("`rt staticlib navic_c` ended well, but {LIBRARY} is not in {}.", directory.display()));
+            stop(&format!("`rt lib` ended well, but {LIBRARY} is not in {}.", directory.display()));
         }
     }
     directory
 }
 
-fn make(root: &Path) {
-    match Command::new("rt").args(["staticlib", "navic_c"]).current_dir(root).output() {
+fn make(folder: &Path) {
+    match Command::new("rt").arg("lib").current_dir(folder).output() {
         Ok(ran) if ran.status.success() => {}
         Ok(ran) => {
             eprintln!("{}{}", String::from_utf8_lossy(&ran.stdout), String::from_utf8_lossy(&ran.stderr));
-            stop(&format!("`rt staticlib navic_c` in {} failed ({}); what it said is above.", root.display(), ran.status));
+            stop(&format!("`rt lib` in {} failed ({}); what it said is above.", folder.display(), ran.status));
         }
-        Err(error) => stop(&format!("`rt staticlib navic_c` could not be run in {}: {error}.", root.display())),
+        Err(error) => stop(&format!("`rt lib` could not be run in {}: {error}.", folder.display())),
     }
 }
 
 fn stop(why: &str) -> ! {
     eprintln!("navic: {why}");
-    eprintln!("navic: This crate links the static library {LIBRARY}. Either run `rt staticlib navic_c` at the repository's root");
+    eprintln!("navic: This crate links the static library {LIBRARY}. Either run `rt lib` in crates/navic_c");
     eprintln!("navic: on a machine that has the kit, or set NAVIC_C_LIB to a directory that has {LIBRARY}.");
     exit(1);
 }

@@ -2,7 +2,8 @@
  * Reads one subframe, 600 characters '0' and '1' from standard input, writes its record again, and shows a refusal.
  * At the repository's root:
  *
- *   rt staticlib navic_c && cc -std=c99 -Iinclude examples/c/subframe.c target/staticlib/libnavic_c.a -o target/subframe
+ *   (cd crates/navic_c && rt lib) && mkdir -p target
+ *   cc -std=c99 -Iinclude examples/c/subframe.c crates/navic_c/out/libnavic_c.a -o target/subframe
  *   target/subframe < samples/noisy.txt
  */
 #include <inttypes.h>

@@ -30,6 +30,10 @@ module _ (f c : ℕ → ℕ) (s : ℕ) where
       go (suc k) h le = omega arith
   chosen false e = let l = ltb-false (via f c s 1) (via f c s 0) e in (omega arith, omega arith, λ k h le. omega arith)
 
+  choice_first : (k : ℕ) → k ≤ 1 → via f c s k ≤ better f c s → choice f c s ≤ k
+  unfolding choice
+  choice_first = (chosen (ltb (via f c s 1) (via f c s 0)) refl).2
+
   pub choice_bit : choice f c s ≤ 1
   unfolding choice
   choice_bit = (chosen (ltb (via f c s 1) (via f c s 0)) refl).0
@@ -37,10 +41,6 @@ module _ (f c : ℕ → ℕ) (s : ℕ) where
   pub choice_way : better f c s ≡ via f c s (choice f c s)
   unfolding choice
   choice_way = (chosen (ltb (via f c s 1) (via f c s 0)) refl).1
-
-  choice_first : (k : ℕ) → k ≤ 1 → via f c s k ≤ better f c s → choice f c s ≤ k
-  unfolding choice
-  choice_first = (chosen (ltb (via f c s 1) (via f c s 0)) refl).2
 
   pub better_le : (k : ℕ) → k ≤ 1 → better f c s ≤ via f c s k
   unfolding better

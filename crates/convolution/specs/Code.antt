@@ -29,7 +29,7 @@ six_zeros = 0 ∷ 0 ∷ 0 ∷ 0 ∷ 0 ∷ 0 ∷ []
 unfoldable pub coded_form : List ℕ → List ℕ
 coded_form w = encode six_zeros (w ++ six_zeros)
 
--- the generators in octal, a 1 for each bit that is used, the present one's first; `g1-octal` and `g2-octal` of proofs/ tie them to g1 and g2
+-- the generators in octal, a 1 for each bit that is used, the present one's first; `g1_octal` and `g2_octal` of proofs/ tie them to g1 and g2
 abbrev pub octal : ℕ → ℕ → ℕ → ℕ
 octal a b c = a * 64 + b * 8 + c
 
@@ -46,7 +46,7 @@ uses g bits =
 
 -- ---- the price
 -- a symbol b against a level from 0, surely a zero, to p, surely a one: a 0 costs the level, a 1 what is left of it to p.
--- A level above p counts as p. At p = 1 levels are symbols, and each that differs costs 1 (`hard-cost` of proofs/)
+-- A level above p counts as p. At p = 1 levels are symbols, and each that differs costs 1 (`hard_cost` of proofs/)
 unfoldable pub price : ℕ → ℕ → ℕ → ℕ
 price p b l = pick (eqb b 0) (min l p) (p - min l p)
 
@@ -71,7 +71,7 @@ abbrev pub Better : ℕ → List ℕ → List ℕ → List ℕ → Type 0
 Better p l w v = (cost p l w < cost p l v) ⊎ ((cost p l w ≡ cost p l v) × ZeroFirst (reverse w) (reverse v))
 
 -- of all words of n bits, each followed by six zeros (which are in coded_form), w is the nearest to the levels l; at n = 286 these are the 292-bit
--- words whose last six bits are zero. `nearest-decode` of proofs/: there is one; `nearest-one`: there is no other
+-- words whose last six bits are zero. `nearest_decode` of proofs/: there is one; `nearest_one`: there is no other
 pub record Nearest (p n : ℕ) (l w : List ℕ) : Type 0 where
   pub bits : Bits w
   pub long : length w ≡ n

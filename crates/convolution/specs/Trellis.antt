@@ -1,5 +1,5 @@
 -- The trellis, by which the nearest word is found: states of six bits, the newest worth 1, and registers of seven. That `decode` is the
--- nearest word is the law `nearest-decode` of proofs/Decoded.antt; nobody has to believe anything of this file. Pairs of levels stand latest
+-- nearest word is the law `nearest_decode` of proofs/Decoded.antt; nobody has to believe anything of this file. Pairs of levels stand latest
 -- first. Assumes nothing.
 use Rattle.std.specs.Prelude.{List, [], ◌∷◌, reverse, ℕ, zero, suc, ◌+◌, ◌*◌, ◌/◌, ◌%◌, min, ltb, eqb, take}
 use Rattle.bits.specs.Lists.{at, pick}

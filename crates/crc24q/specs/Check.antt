@@ -34,7 +34,7 @@ pub record Remainder (body : List ℕ) (c : ℕ) : Type 0 where
   pub whole : (k : ℕ) → coefficient (number body * 2 ^ 24) k ≡ (product_at quotient generator k + coefficient c k) % 2
   pub small : c < 2 ^ 24
 
--- ---- the same by long division; `check-remainder` and `remainder-one` of proofs/ say that this is the remainder, and the only one
+-- ---- the same by long division; `check_remainder` and `remainder_one` of proofs/ say that this is the remainder, and the only one
 infixl 65 ◌⊕◌
 -- the sum of two polynomials: no carries
 unfoldable pub ◌⊕◌ : ℕ → ℕ → ℕ

@@ -7,7 +7,7 @@ pub record Refusal : Type 1 where
   pub condition : Type 0
 
 -- n is given: the condition of its line holds, and no earlier one does; or none holds, and n is 0, done.
--- `given-one` of proofs/ says that this gives one number only
+-- `given_one` of proofs/ says that this gives one number only
 pub data Given : List Refusal → ℕ → Type 1 where
   none : Given [] 0
   here : {r : Refusal} {rs : List Refusal} → r.condition → Given (r ∷ rs) r.number

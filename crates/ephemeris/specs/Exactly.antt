@@ -14,7 +14,7 @@ exactly (pos n) e = times false n e
 exactly (negsuc n) e = times true (suc n) e
 
 -- x is z · 2 ^ e, said plainly: it is finite, has the sign - exactly where z is negative, and |x| · down e = |z| · up e, where 2 ^ e = up e / down e.
--- `exactly-is` of proofs/: exactly is that, and `exactly-one`: no other binary64 number is
+-- `exactly_is` of proofs/: exactly is that, and `exactly_one`: no other binary64 number is
 abbrev pub Exactly : Float → ℤ → ℤ → Type 0
 Exactly x (pos n) e = HasValue x false (n * up e) (down e)
 Exactly x (negsuc n) e = HasValue x true (suc n * up e) (down e)

@@ -1,5 +1,5 @@
--- What the answers of `pair` and `is_idle_pattern` mean, said plainly. `pair-means` of proofs/Laws: pairOf means `Means`, and `pair-decides`: no
--- other answer does. `idle-exactly` of proofs/Idling: idle_in tells whether `Idle` holds. Assumes nothing.
+-- What the answers of `pair` and `is_idle_pattern` mean, said plainly. `pair_means` of proofs/Laws: pair_of means `Means`, and `pair_decides`: no
+-- other answer does. `idle_exactly` of proofs/Idling: idle_in tells whether `Idle` holds. Assumes nothing.
 use Rattle.std.specs.Prelude.{◌≡◌, Bool, true, not, List, [], ◌∷◌, ◌++◌, ℕ, ◌+◌, ◌-◌, ◌%◌, ◌≤◌, T, eqb, leb, ℤ, pos, get_or, drop, replicate, Float}
 use Rattle.std.specs.Float.Ieee as ieee
 use Rattle.std.specs.Float.{binary64}

@@ -29,7 +29,7 @@ in_first raw k = exactly raw (scale_at layout.Subframe1 k)
 abbrev pub in_second : ℤ → ℕ → Float
 in_second raw k = exactly raw (scale_at layout.Subframe2 k)
 
--- `every-field` of proofs/Laws: these are the fields from bit 31 to bit 260 of both subframes except the ten reserved bits, row 15
+-- `every_field` of proofs/Laws: these are the fields from bit 31 to bit 260 of both subframes except the ten reserved bits, row 15
 unfoldable pub ephemeris_of : Subframe1 → Subframe2 → Ephemeris
 ephemeris_of a b =
     record {

@@ -1,8 +1,8 @@
 -- A body and its numbers, each from the other: rows that lie one behind the other take a body apart and put it together. Assumes nothing.
-use mathlib.Core.Bool.{Bool, true, false}
+use mathlib.Core.Bool.{true}
 use mathlib.Core.Path.{◌≡◌, refl, sym, ap, ap₂, subst, ◌∙◌}
 use mathlib.Core.List.{List, [], ◌∷◌, ◌++◌}
-use Prim.Native.Nat.{ℕ, ◌+◌, ◌-◌}
+use Prim.Native.Nat.{ℕ, suc, ◌+◌, ◌-◌, ◌<◌}
 use native.Mathlib.Nat.{le_refl}
 use native.Mathlib.Omega.{arith}
 use lib.IntN.{ℤ, pos}
@@ -10,12 +10,13 @@ use lib.ListN.{length, get_or, take, drop, length-append, length-drop, take-appe
 use lib.Seq.{take_at, drop_at, drop-drop, length-take-le}
 use Rattle.bits.proofs.Lists.{at_most_append, at_most_take, at_most_drop}
 use Rattle.bits.proofs.Numbers.{number_few}
-use Rattle.bits.specs.Lists.{pick, Bits}
+use Rattle.bits.specs.Lists.{Bits}
 use Rattle.bits.specs.Numbers.{number}
 use Rattle.fields.specs.declared.Row.{Row}
 use Rattle.fields.specs.declared.Layout.{Layout}
 use Rattle.fields.specs.Fields.{value_of, value_at, values, field_bits, body_of, holds, fault_in}
 use Rattle.fields.specs.Table.{first, width, signed, rows_of}
+use Rattle.fields.proofs.Faults.{HoldsAt, rest, faults}
 use Rattle.fields.proofs.Rules.{Tiles, tiled, total, tiles_end}
 use Rattle.fields.proofs.Twos.{field_long, field_bits_lem, field_round, bits_round, value_holds}
 
@@ -24,14 +25,12 @@ abbrev pub AllHold : List Row → List ℤ → Type 0
 AllHold [] zs = Unit {0}
 AllHold (r ∷ rs) zs = (holds r (get_or zs 0 (pos 0)) ≡ true) × AllHold rs (drop 1 zs)
 
+all_at : (rs : List Row) (zs : List ℤ) → ((i : ℕ) → i < length rs → HoldsAt rs zs i ≡ true) → AllHold rs zs
+all_at [] zs h = tt
+all_at (r ∷ rs) zs h = (h 0 (omega arith), all_at rs (drop 1 zs) (λ i l. rest rs r zs i ∙ h (suc i) (omega arith)))
+
 pub no_fault : (at : ℕ) (rs : List Row) (zs : List ℤ) → Tiles at rs → fault_in rs zs ≡ 0 → AllHold rs zs
-unfolding fault_in
-no_fault at [] zs t e = tt
-no_fault at (r ∷ rs) zs t e = go (holds r (get_or zs 0 (pos 0))) refl e (no_fault (at + width r) rs (drop 1 zs) t.1)
-  where
-    go : (b : Bool) → holds r (get_or zs 0 (pos 0)) ≡ b → pick b (fault_in rs (drop 1 zs)) (first r) ≡ 0 → (fault_in rs (drop 1 zs) ≡ 0 → AllHold rs (drop 1 zs)) → AllHold (r ∷ rs) zs
-    go true h f rest = (h, rest f)
-    go false h f rest = absurd (omega (arith, t.0.place))
+no_fault at rs zs t e = all_at rs zs (λ i l. (faults at rs zs t).none e i l)
 
 pub all_hold : (rs : List Row) (zs : List ℤ) → AllHold rs zs → fault_in rs zs ≡ 0
 unfolding fault_in

@@ -30,7 +30,7 @@ pub record Fault (rs : List Row) (zs : List ℤ) (b : ℕ) : Type 0 where
   pub none : b ≡ 0 → (i : ℕ) → i < length rs → HoldsAt rs zs i ≡ true
   pub some : (b ≡ 0 → ⊥) → Broken rs zs b
 
-rest : (rs : List Row) (r : Row) (zs : List ℤ) (i : ℕ) → HoldsAt rs (drop 1 zs) i ≡ HoldsAt (r ∷ rs) zs (suc i)
+pub rest : (rs : List Row) (r : Row) (zs : List ℤ) (i : ℕ) → HoldsAt rs (drop 1 zs) i ≡ HoldsAt (r ∷ rs) zs (suc i)
 rest rs r [] i = refl
 rest rs r (z ∷ zs) i = refl
 
@@ -71,7 +71,7 @@ broken_first at r rs zs t h =
     later zero l e = absurd (omega arith)
     later (suc j) l e = absurd (omega (arith, t.0.place, (tile_at (at + width r) rs j t.1 (omega arith)).place))
 
-faults : (at : ℕ) (rs : List Row) (zs : List ℤ) → Tiles at rs → Fault rs zs (fault_in rs zs)
+pub faults : (at : ℕ) (rs : List Row) (zs : List ℤ) → Tiles at rs → Fault rs zs (fault_in rs zs)
 unfolding fault_in
 faults at [] zs t = record { none = λ e i l. absurd (omega arith); some = λ n. absurd (n refl) }
 faults at (r ∷ rs) zs t = go (HoldsAt (r ∷ rs) zs 0) refl (faults (at + width r) rs (drop 1 zs) t.1)

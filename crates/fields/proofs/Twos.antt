@@ -31,13 +31,13 @@ field_bits_lem w (pos n) = bits_bits w n
 field_bits_lem w (negsuc n) = turned_bits (bits_of w n)
 
 -- ---- a number written is read
-pub twos_low : (w n : ℕ) → n < 2 ^ (w - 1) → twos w n ≡ pos n
-unfolding twos
-twos_low w n h = rw (lt-ltb n (2 ^ (w - 1)) h)
-
 pub twos_high : (w n : ℕ) → 2 ^ (w - 1) ≤ n → twos w n ≡ negsuc (2 ^ w - 1 - n)
 unfolding twos
 twos_high w n h = rw (le-ltb n (2 ^ (w - 1)) h)
+
+pub twos_low : (w n : ℕ) → n < 2 ^ (w - 1) → twos w n ≡ pos n
+unfolding twos
+twos_low w n h = rw (lt-ltb n (2 ^ (w - 1)) h)
 
 twos_bits : (w : ℕ) (z : ℤ) → 0 < w → mag z < 2 ^ (w - 1) → twos w (number (field_bits w z)) ≡ z
 unfolding field_bits

@@ -43,7 +43,7 @@ unfoldable pub holds : Row → ℤ → Bool
 holds r z = pick (signed r) (ltb (mag z) (2 ^ (width r - 1))) (in_unsigned (width r) z)
 
 -- the first bit of the first row that does not hold its number, and 0 where all do; rows lie in order, so it is the lowest such field
--- (`fault-first` of proofs/Faults)
+-- (`fault_first` of proofs/Faults)
 unfoldable pub fault_in : List Row → List ℤ → ℕ
 fault_in [] zs = 0
 fault_in (r ∷ rs) zs = pick (holds r (get_or zs 0 (pos 0))) (fault_in rs (drop 1 zs)) (first r)

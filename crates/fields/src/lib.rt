@@ -349,6 +349,7 @@ fn field(bits: &[u8], at: usize, width: usize) -> u64
 }
 
 // The pattern of the number that `width` bits spell by two's complement: the sign is the field's own first bit.
+#[tactic(auto, using(crate::proofs::Halves::half_shifted, crate::proofs::Halves::half_small, crate::proofs::Halves::two_halves, crate::proofs::Twos::twos_low, crate::proofs::Twos::twos_high))]
 fn extend(n: u64, width: usize) -> u64
     requires { (0 < width) × (width ≤ 63) × (n < 2 ^ width) }
     ensures { result ≡ pattern (twos width n) }

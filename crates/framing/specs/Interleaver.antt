@@ -6,7 +6,7 @@ use Rattle.bits.specs.Lists.{at, build}
 abbrev pub place : ℕ → ℕ
 place i = i % 8 * 73 + i / 8
 
--- the coded symbol that travels at place k; `place-home` and `home-place` of proofs/: each undoes the other; `travels`: coded symbol i travels at
+-- the coded symbol that travels at place k; `place_home` and `home_place` of proofs/: each undoes the other; `travels`: coded symbol i travels at
 -- place i
 abbrev pub home : ℕ → ℕ
 home k = k % 73 * 8 + k / 73

@@ -26,6 +26,7 @@ fn bit_at(top: u8, level: u8) -> u8
 }
 
 // What the number of disagreeing symbols says.
+#[tactic(auto, using(crate::proofs::Agreement::judged_upright, crate::proofs::Agreement::judged_turned, crate::proofs::Agreement::judged_missing))]
 fn judge(disagreeing: u8) -> Polarity
     ensures { result ≡ judged disagreeing }
 {
@@ -39,6 +40,7 @@ fn judge(disagreeing: u8) -> Polarity
 }
 
 // What the sixteen symbols from a place on say; there is no sync where fewer are left.
+#[tactic(auto, using(crate::proofs::Agreement::passed_above))]
 pub fn sync(top: u8, symbols: &[u8], at: usize) -> Polarity
     ensures { result ≡ sync_of top (part symbols.now at 16) }
 {

@@ -42,7 +42,7 @@ pattern_of word = fits (row_of word) word
 unfoldable pub idle_of : List ℕ → Bool
 idle_of word = both (row_of word).4 (pattern_of word)
 
--- the same said plainly; `idle-exactly` of proofs/: of a word of bits, idle_of tells whether this holds
+-- the same said plainly; `idle_exactly` of proofs/: of a word of bits, idle_of tells whether this holds
 pub record Idle (word : List ℕ) : Type 0 where
   pub subframe : (number (part word 27 2) ≡ 2) ⊎ (number (part word 27 2) ≡ 3)
   pub alert : at word 25 ≡ 0

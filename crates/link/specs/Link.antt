@@ -21,7 +21,7 @@ sent_of w = framed (coded_form w)
 unfoldable pub corrected_of : ℕ → List ℕ → List ℕ → ℕ
 corrected_of p coded w = differences (coded_form w) (map (bit_at p) coded)
 
--- the nearest word of what came: it is `Nearest` (`nearest-decode` of crate convolution), and no other is (`nearest-one`)
+-- the nearest word of what came: it is `Nearest` (`nearest_decode` of crate convolution), and no other is (`nearest_one`)
 abbrev pub word_of : ℕ → List ℕ → List ℕ
 word_of p coded = decode p 286 coded
 

@@ -1,6 +1,6 @@
 -- What is promised of the link (demand 3, on words): "Two different words of 286 bits, each followed by six zeros, differ in at least ten of their
 -- 584 coded symbols" (`distance` of crate convolution). "The reader always takes a word nearest to what came; among equally near ones, going back
--- from the last bit, it has the zero at the first place where they part" (`nearest-taken`, proofs/Taken.antt). "So if a written subframe suffers
+-- from the last bit, it has the zero at the first place where they part" (`nearest_taken`, proofs/Taken.antt). "So if a written subframe suffers
 -- up to four altered coded symbols, any four, and up to two altered sync symbols (each 0 for 1 or 1 for 0), with or without all 600 then turned
 -- over", the word comes back with the exact number of altered coded symbols (`recovered`, proofs/Recovered.antt). Assumes nothing.
 use Rattle.std.specs.Prelude.{◌≡◌, Bool, true, false, List, ℕ, ◌≤◌, length, take, drop}
@@ -49,6 +49,6 @@ pub record EndsInSixZeros (w : List ℕ) : Type 0 where
   pub long : length w ≡ 292
   pub tail : drop 286 w ≡ six_zeros
 
--- no word ends in six zeros; `some-word-ends` of proofs/ says that this never holds
+-- no word ends in six zeros; `some_word_ends` of proofs/ says that this never holds
 abbrev pub NoWordEnds : Type 0
 NoWordEnds = (w : List ℕ) → EndsInSixZeros w → ⊥

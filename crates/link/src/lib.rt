@@ -38,6 +38,7 @@ fn refuse(answer: Answer) -> Received
 }
 
 // The nearest word once the polarity is known.
+#[tactic(auto, using(crate::proofs::Outcomes::none_told))]
 fn nearest_word(symbols: &[u8; 600], turned_over: bool) -> Received
     requires { Bits (coded_of 1 turned_over symbols.now) }
     ensures { result ≡ nearest_of 1 turned_over symbols.now }

@@ -181,7 +181,7 @@ used_by layout.EarthIono = none
 used_by layout.Data = bits
 
 -- the bits and numbers beside a record that its case doesn't use are 0. (The tests of lengths hold of every Beside that code can make; with them
--- `record-back` holds of any lists.)
+-- `record_back` holds of any lists.)
 abbrev pub unused_zero : Use → Beside → Bool
 unused_zero none b = both (zeros? 28 b.bits) (both (zeros? 15 b.givei) (zeros? 15 b.givd))
 unused_zero pairs b = both (zeros? 28 b.bits) (both (eqb (length b.givei) 15) (eqb (length b.givd) 15))

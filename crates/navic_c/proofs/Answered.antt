@@ -1,13 +1,11 @@
 -- What the calls answer, by the tests that the code makes. Assumes nothing.
 use mathlib.Core.Path.{◌≡◌, refl, sym, ap, ap₂, ◌∙◌}
-use mathlib.Core.Bool.{Bool, true, false}
-use mathlib.Core.List.{List, [], ◌∷◌, ◌++◌, map, map-append, append_assoc}
+use mathlib.Core.Bool.{true, false}
+use mathlib.Core.List.{List, ◌∷◌, ◌++◌, map, map-append}
 use Prim.Native.Nat.{ℕ, zero, suc, ◌+◌, ◌-◌, ◌≤◌, ◌<◌}
 use native.Mathlib.Decide.{ℕ_discrete}
 use native.Mathlib.Omega.{arith}
 use borrow.Author.Tests.{eq-eqb, ne_eqb, le-leb, lt-leb}
-use denote.Enum.Declared.{tag_of}
-use types.Run.{OneOf, miss}
 use lib.IntN.{ℤ, pos}
 use lib.ListN.{length, take, drop, replicate, length-append, length-map, length-replicate}
 use lib.Seq.{take_all}
@@ -16,7 +14,6 @@ use Rattle.convolution.specs.Code.{cost}
 use Rattle.convolution.specs.Trellis.{decode}
 use Rattle.convolution.proofs.Decoded.{nearest_decode}
 use Rattle.fields.specs.Patterns.{pattern, patterns}
-use Rattle.fields.specs.Table.{rows_of}
 use Rattle.fields.proofs.Rules.{few}
 use Rattle.link.specs.Link.{receive_of}
 use Rattle.link.proofs.Recovered.{sent_long}
@@ -26,16 +23,17 @@ use Rattle.message.specs.Records.{layout_of, numbers_of}
 use Rattle.message.proofs.Laws.{numbers_long}
 use Rattle.navic.specs.declared.Reading as navic
 use Rattle.navic.specs.declared.Reading.TheVariants as reading
+use Rattle.navic.specs.declared.Numbers.{Numbers}
+use Rattle.navic.specs.declared.Quality.{Quality}
 use Rattle.navic.specs.declared.Readout.{Readout}
 use Rattle.demands.specs.Family.{Reading, done, refused, not_of_600, little_room, bad_symbol, no_sync, no_word, is_idle, bad_check, bad_time, reading_of, after_reading, read_into, writing_of, write_into, symbols_of}
 use Rattle.navic.specs.Navic.{family, read_of, answer, lent_after_read}
 use Rattle.demands.proofs.Ordered.{not_600, little_room_lem}
 use Rattle.navic.proofs.Packing.{copied, copied_whole}
-use Rattle.navic.specs.contracts.Reading.{the_type}
 use Rattle.navic_c.specs.declared.Written.{Written}
 use Rattle.navic_c.specs.declared.Decoded.{Decoded}
-use Rattle.navic_c.specs.Numbers.{padded, fault_from, refusal, beside, numbered}
-use Rattle.navic_c.specs.Calls.{read_from, word_after, numbers_after, numbers_by, written_of, nearest_answer, nearest_into}
+use Rattle.navic_c.specs.Numbers.{padded, refusal, beside, numbered}
+use Rattle.navic_c.specs.Calls.{line_of_numbers, read_from, word_after, numbers_after, numbers_by, written_of, nearest_answer, nearest_into}
 use Rattle.navic_c.proofs.ReadAsRecords.{as_numbers, reading_same}
 
 -- ---- the writer
@@ -47,6 +45,9 @@ module _ (zs : List ℤ) (lent : List ℕ) where
   pub too_little : length lent < 600 → Answers (record { refusal = 2; first_bit = 0 }) lent
   unfolding written_of writing_of write_into
   too_little h = let e = lt-leb 600 (length lent) h in (rw e refl, rw e refl)
+
+  pub too_little_after : length lent < 600 → lent ≡ write_into numbered zs lent
+  too_little_after h = (too_little h).1
 
   module _ (enough : 600 ≤ length lent) where
     pub other_count : (length zs ≡ 42 → ⊥) → Answers (record { refusal = 1; first_bit = 0 }) lent
@@ -84,6 +85,9 @@ module _ (s word ns : List ℕ) where
     pub few_read : read_from s (length word) (length ns) ≡ reading_of numbered s 0
     unfolding read_from
     few_read = rw (lt-leb 42 (length ns) h) refl
+
+    pub few_value : (v : Numbers) → v ≡ line_of_numbers (reading_of numbered s 0) → v ≡ line_of_numbers (read_from s (length word) (length ns))
+    few_value v e = e ∙ sym (ap line_of_numbers few_read)
 
     pub few_word : word ≡ word_after s word (length ns)
     unfolding word_after
@@ -128,8 +132,8 @@ pub table_put : (r : Record) (b : Beside) (table lent : List ℕ) → table ≡ 
 table_put r b table lent e =
     ap (λ (l : List ℕ). l ++ drop 42 lent) (ap (take 42) e ∙ take_all 42 (patterns (numbers_of r b)) (omega (arith, patterns_42 r b)))
 
-pub not_done : (q : navic.Reading) (b : Beside) (lent : List ℕ) → OneOf (1 ∷ 2 ∷ 3 ∷ 4 ∷ 5 ∷ 6 ∷ 7 ∷ 8 ∷ []) (tag_of the_type q) → lent ≡ numbers_by q b lent
-not_done (reading.Done r q) b lent h = absurd (miss (1 ∷ 2 ∷ 3 ∷ 4 ∷ 5 ∷ 6 ∷ 7 ∷ 8 ∷ []) 0 tt h)
+pub not_done : (q : navic.Reading) (b : Beside) (lent : List ℕ) → ((r : Record) (n : Quality) → q ≡ reading.Done r n → ⊥) → lent ≡ numbers_by q b lent
+not_done (reading.Done r q) b lent h = absurd (h r q refl)
 not_done reading.Length b lent h = refl
 not_done reading.Room b lent h = refl
 not_done reading.BadSymbol b lent h = refl
@@ -182,6 +186,9 @@ module _ (coded lent : List ℕ) where
     pub word_room : length lent < 286 → Decodes (record { refusal = 2; corrected = 0 }) lent
     unfolding nearest_answer nearest_into
     word_room h = let e = eq-eqb (length coded) 584 long in let f = lt-leb 286 (length lent) h in (rw (e, f) refl, rw (e, f) refl)
+
+    pub word_room_after : length lent < 286 → lent ≡ nearest_into coded lent
+    word_room_after h = (word_room h).1
 
     module _ (enough : 286 ≤ length lent) where
       pub bad_symbol_lem : at_most 1 coded ≡ false → Decodes (record { refusal = 3; corrected = 0 }) lent

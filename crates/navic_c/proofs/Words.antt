@@ -2,18 +2,18 @@
 use mathlib.Core.Path.{◌≡◌, refl, sym, ap, ap₂, subst, ◌∙◌}
 use mathlib.Core.Bool.{Bool, true, false}
 use mathlib.Core.List.{List, [], ◌∷◌, ◌++◌, map, append-nil}
-use Prim.Native.Nat.{ℕ, zero, suc, ◌+◌, ◌-◌, ◌^◌, ◌≤◌, ◌<◌}
+use Prim.Native.Nat.{ℕ, zero, suc, ◌-◌, ◌^◌, ◌≤◌, ◌<◌}
 use native.Mathlib.Decide.{dec_le}
 use native.Mathlib.Omega.{arith}
 use borrow.Author.Tests.{lt-ltb, le-ltb, ne_eqb, lt-leb}
-use lib.Dec.{eqb, leb, ltb}
+use lib.Dec.{leb, ltb}
 use lib.IntN.{ℤ, pos, negsuc}
-use lib.ListN.{length, get_or, drop, replicate, length-map}
+use lib.ListN.{length, drop, replicate, length-map}
 use lib.Signed.{mag}
 use mir.Facts.{sfits_to_z, of_z-to_z}
 use mir.Syntax.{w64}
-use mir.Val.{Fits, to_z}
-use Rattle.bits.specs.Lists.{at, pick, both, at_most}
+use mir.Val.{to_z}
+use Rattle.bits.specs.Lists.{at, both, at_most}
 use Rattle.fields.specs.declared.Layout.{Layout}
 use Rattle.fields.specs.declared.Row.{Row}
 use Rattle.fields.specs.Fields.{body_of, fault_in}
@@ -23,7 +23,7 @@ use Rattle.fields.proofs.Held.{Carried, AllHeld, packed_body, pattern_fault_lem}
 use Rattle.message.specs.Numbers.{nth, nat, unsigned}
 use Rattle.message.proofs.Laying.{map_at}
 use Rattle.navic_c.specs.Numbers.{is_zero, all_zero}
-use Rattle.navic_c.specs.Calls.{int64, Few, Words}
+use Rattle.navic_c.specs.Calls.{int64, Words}
 
 -- ---- one number
 pub natural_low : (n : ℕ) → n < 2 ^ 63 → n ≡ nat (to_z w64 n)

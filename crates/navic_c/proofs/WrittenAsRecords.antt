@@ -19,7 +19,7 @@ use Rattle.message.proofs.Laws.{numbers_long}
 use Rattle.message.proofs.Return.{Named, layout_back}
 use Rattle.bits.specs.Lists.{pick}
 use Rattle.demands.specs.Family.{writing_of, write_into, symbols_of}
-use Rattle.navic.specs.Navic.{family, entry_of, entry_refusal, entry_beside, written_by, written_number, written_beside, write_answer, lent_after_write}
+use Rattle.navic.specs.Navic.{entry_of, entry_refusal, entry_beside, written_by, written_number, written_beside, write_answer, lent_after_write}
 use Rattle.navic_c.specs.declared.Written.{Written}
 use Rattle.weektime.specs.Time.{towc_refused}
 use Rattle.navic_c.specs.Numbers.{padded, layout_in, body_from, id_above, untimely, fault_from, refusal, numbered}

@@ -1,5 +1,5 @@
 -- What the calls for C answer. Assumes nothing.
-use Rattle.std.specs.Prelude.{Bool, true, false, List, [], ◌∷◌, ◌++◌, map, ℕ, ◌+◌, ◌^◌, ◌<◌, ◌≡◌, eqb, leb, ltb, ℤ, length, drop}
+use Rattle.std.specs.Prelude.{Bool, List, ◌++◌, map, ℕ, ◌+◌, ◌^◌, ◌<◌, ◌≡◌, eqb, leb, ltb, ℤ, length, drop}
 use Rattle.std.specs.Int.{w64}
 use Rattle.std.proofs.Common.{to_z}
 use Rattle.bits.specs.Lists.{at, pick, both, at_most}

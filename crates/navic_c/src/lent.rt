@@ -23,6 +23,14 @@ pub fn copy(to: &mut [u64], from: &[u64])
     }
 }
 
+// Puts the bytes of `from` at the start of `to`.
+pub fn copy_bytes(from: &[u8], to: &mut [u8])
+    requires { length from.now ≤ length to.old }
+    ensures { to.new ≡ take (length from.now) from.now ++ drop (length from.now) to.old }
+{
+    to[..from.len()].copy_from_slice(from);
+}
+
 // The line where too few numbers are lent: 1 for a wrong length, else 2.
 pub fn no_room(symbols: &[u8]) -> Numbers
     ensures { result ≡ line_of_numbers (reading_of numbered symbols.now 0) }
@@ -52,9 +60,9 @@ pub fn decode(coded: &[u8], word: &mut [u8]) -> u32
     ensures word_after { word.new ≡ decode 1 286 coded.now ++ drop 286 word.old }
 {
     let mut all = [0u8; 584];
-    bytes::copy(coded, &mut all);
+    copy_bytes(coded, &mut all);
     let mut bits = [0u8; 286];
     let corrected = nearest::nearest(&all, &mut bits);
-    bytes::copy(&bits, word);
+    copy_bytes(&bits, word);
     corrected as u32
 }

@@ -18,7 +18,7 @@ mod lent;
 
 // What the writer answers: the paper's number, or 1 for a list that is not of 42 numbers; and beside 8 the first bit of the lowest field at fault.
 #[repr(C)]
-#[derive(Drop)]
+#[derive(Clone, Copy)]
 pub struct Written {
     pub refusal: u32,
     pub first_bit: u32,
@@ -26,7 +26,7 @@ pub struct Written {
 
 // The second at which a subframe began, or 7 and 0.
 #[repr(C)]
-#[derive(Drop)]
+#[derive(Clone, Copy)]
 pub struct Began {
     pub refusal: u32,
     pub second: u32,
@@ -34,7 +34,7 @@ pub struct Began {
 
 // The count of the subframe in which a second lies, or 7 and 0.
 #[repr(C)]
-#[derive(Drop)]
+#[derive(Clone, Copy)]
 pub struct Counted {
     pub refusal: u32,
     pub towc: u32,
@@ -42,13 +42,14 @@ pub struct Counted {
 
 // What the decoder alone answers: 0, 1, 2 or 3, and the corrected count.
 #[repr(C)]
-#[derive(Drop)]
+#[derive(Clone, Copy)]
 pub struct Decoded {
     pub refusal: u32,
     pub corrected: u32,
 }
 
 // Reads 600 symbols. Done, the word's bits are put into the first 36 bytes of `word` and the record's numbers into the first 42 of `numbers`.
+#[tactic(auto, using(crate::proofs::Answered::few_value, crate::proofs::Answered::few_word, crate::proofs::Answered::few_numbers))]
 #[unsafe(no_mangle)]
 pub extern "C" fn navic_read(symbols: &[u8], word: &mut [u8], numbers: &mut [u64]) -> Numbers
     ensures value { result ≡ line_of_numbers (read_from symbols.now (length word.old) (length numbers.old)) }
@@ -66,6 +67,7 @@ pub extern "C" fn navic_read(symbols: &[u8], word: &mut [u8], numbers: &mut [u64
 }
 
 // Writes a record as 600 upright symbols.
+#[tactic(auto, using(crate::proofs::Answered::too_little, crate::proofs::Answered::too_little_after))]
 #[unsafe(no_mangle)]
 pub extern "C" fn navic_write(numbers: &[u64], symbols: &mut [u8]) -> Written
     ensures value { result ≡ written_of (int64 numbers.now) (length symbols.old) }
@@ -85,9 +87,10 @@ pub extern "C" fn navic_write(numbers: &[u64], symbols: &mut [u8]) -> Written
     }
     let all = given::forty_two(numbers);
     let judged = given::judge(all);
-    if judged.refusal == 0 {
+    let accepted = judged.refusal == 0;
+    if accepted {
         let sent = given::symbols(all);
-        bytes::copy(&sent, symbols);
+        lent::copy_bytes(&sent, symbols);
     }
     judged
 }
@@ -160,6 +163,7 @@ pub extern "C" fn navic_count_in(second: u32) -> Counted
 }
 
 // The word nearest to 584 coded symbols, its 286 bits a byte each, and how many symbols its code differs in.
+#[tactic(auto, using(crate::proofs::Answered::word_room, crate::proofs::Answered::word_room_after))]
 #[unsafe(no_mangle)]
 pub extern "C" fn navic_nearest(coded: &[u8], word: &mut [u8]) -> Decoded
     ensures value { result ≡ nearest_answer coded.now (length word.old) }

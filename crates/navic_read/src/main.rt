@@ -1,44 +1,38 @@
 // Reads the symbols of one subframe from standard input and prints one line: refusal, corrected count, polarity, subframe, TOWC, message ID.
 #![tactic(auto)]
 
-use libc::{STDIN_FILENO, STDOUT_FILENO};
+use std::io;
+use std::io::Read;
 
 // Takes the next piece of the input; answers whether there was one.
-fn take_piece(kept: &mut [u8; 600], count: &mut u64) -> bool {
-    let mut piece = io::buffer();
-    let got = libc::read(STDIN_FILENO, &mut piece);
-    if got <= 0 {
-        return false;
+fn take_piece(input: &mut impl Read, kept: &mut [u8; 600], count: &mut u64) -> io::Result<bool> {
+    let mut piece = [0u8; 4096];
+    let n = input.read(&mut piece)?;
+    if n == 0 {
+        return Ok(false);
     }
-    let n = io::count(got, &piece);
     *count = navic::input::gather(kept, *count, &piece[..n]);
-    true
+    Ok(true)
 }
 
-// Takes the whole input, and answers how many symbols it had. The turns are counted down, from a number that no run uses up, since nothing says
-// that an input ends.
-fn take_all(kept: &mut [u8; 600]) -> u64 {
+// Takes the whole input, and answers how many symbols it had. The turns are counted, up to a number that no run comes to, since nothing says that
+// an input ends.
+fn take_all(input: &mut impl Read, kept: &mut [u8; 600]) -> io::Result<u64> {
     let mut count = 0;
-    let mut turns = u64::MAX;
-    while turns > 0 && take_piece(kept, &mut count) {
-        turns -= 1;
+    for _ in 0..u64::MAX {
+        if !take_piece(input, kept, &mut count)? {
+            break;
+        }
     }
-    count
+    Ok(count)
 }
 
-fn print(n: u32, behind: u8) {
-    io::print_decimal(STDOUT_FILENO, n as u64);
-    io::write_all(STDOUT_FILENO, &[behind]);
-}
-
-fn main() {
+fn main(rt: HostRuntime) -> io::Result<()> {
     let mut kept = [0u8; 600];
-    let count = take_all(&mut kept);
+    let count = take_all(&mut rt.stdin(), &mut kept)?;
     let line = navic::input::line(&kept, count);
-    print(line.refusal, b' ');
-    print(line.corrected, b' ');
-    print(line.polarity, b' ');
-    print(line.subframe, b' ');
-    print(line.towc, b' ');
-    print(line.message_id, b'\n');
+    println!(rt;
+        "{} {} {} {} {} {}",
+        line.refusal, line.corrected, line.polarity, line.subframe, line.towc, line.message_id
+    )
 }

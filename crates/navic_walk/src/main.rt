@@ -2,15 +2,17 @@
 // navic_read prints for its 600 symbols; and then the walk's closing number.
 #![tactic(auto)]
 
-ghost use Rattle.std.specs.Prelude.{◌≡◌, length};
+ghost use Rattle.std.specs.Prelude.{◌≡◌, ◌≤◌, IfOk, OnErr, length};
 ghost use Rattle.navic.specs.Navic.{answer, line_of};
+ghost use Rattle.recording.specs.Walk.{found_from};
 ghost use Rattle.navic_walk.specs.Steps.{step_of, closing_of};
 
-use libc::{STDIN_FILENO, STDOUT_FILENO};
 use navic::Numbers;
+use std::io;
+use std::io::Read;
 
 // What a step of the walk gives: a window's place, where the walk then stands, and the line of the window's symbols; or the closing number.
-#[derive(Drop)]
+#[derive(Clone, Copy)]
 enum Step {
     Window {
         place: usize,
@@ -21,26 +23,26 @@ enum Step {
 }
 
 // Takes the next piece of the input; answers whether there was one.
-fn take_piece(kept: &mut [u8], count: &mut u64) -> bool {
-    let mut piece = io::buffer();
-    let got = libc::read(STDIN_FILENO, &mut piece);
-    if got <= 0 {
-        return false;
+fn take_piece(input: &mut impl Read, kept: &mut [u8], count: &mut u64) -> io::Result<bool> {
+    let mut piece = [0u8; 4096];
+    let n = input.read(&mut piece)?;
+    if n == 0 {
+        return Ok(false);
     }
-    let n = io::count(got, &piece);
     *count = navic::input::gather(kept, *count, &piece[..n]);
-    true
+    Ok(true)
 }
 
-// Takes the whole input, and answers how many symbols it had. The turns are counted down, from a number that no run uses up, since nothing says
-// that an input ends.
-fn take_all(kept: &mut [u8]) -> u64 {
+// Takes the whole input, and answers how many symbols it had. The turns are counted, up to a number that no run comes to, since nothing says that
+// an input ends.
+fn take_all(input: &mut impl Read, kept: &mut [u8]) -> io::Result<u64> {
     let mut count = 0;
-    let mut turns = u64::MAX;
-    while turns > 0 && take_piece(kept, &mut count) {
-        turns -= 1;
+    for _ in 0..u64::MAX {
+        if !take_piece(input, kept, &mut count)? {
+            break;
+        }
     }
-    count
+    Ok(count)
 }
 
 // The line that navic_read prints for some symbols.
@@ -67,34 +69,27 @@ fn step_from(recording: &[u8], from: usize) -> Step
     Step::Window { place, after, line }
 }
 
-// Prints a number and a byte behind it.
-fn print(n: u64, behind: u8) {
-    io::print_decimal(STDOUT_FILENO, n);
-    io::write_all(STDOUT_FILENO, &[behind]);
-}
-
 // Prints the line of a window.
-fn print_window(place: usize, line: Numbers) {
-    print(place as u64, b' ');
-    print(line.refusal as u64, b' ');
-    print(line.corrected as u64, b' ');
-    print(line.polarity as u64, b' ');
-    print(line.subframe as u64, b' ');
-    print(line.towc as u64, b' ');
-    print(line.message_id as u64, b'\n');
+fn print_window(rt: &impl Print, place: usize, line: Numbers) -> io::Result<()> {
+    println!(rt;
+        "{place} {} {} {} {} {} {}",
+        line.refusal, line.corrected, line.polarity, line.subframe, line.towc, line.message_id
+    )
 }
 
-// Prints the windows of a recording in turn; gives the closing number.
-fn print_windows(recording: &[u8]) -> u8
-    ensures { result ≡ closing_of (length recording.now) }
+// Prints the windows of a recording in turn; gives the closing number. An error is that of a failed write: it comes only where there is a window
+// to print, and no window is printed behind it.
+fn print_windows(rt: &impl Print, recording: &[u8]) -> io::Result<u8>
+    ensures ok { IfOk result (λ n. n ≡ closing_of (length recording.now)) }
+    ensures err { OnErr result ((found_from recording.now 0).number ≡ 0) }
 {
     let mut from = 0;
     loop {
         let step = step_from(recording, from);
         match step {
-            Step::Closing(number) => return number,
+            Step::Closing(number) => return Ok(number),
             Step::Window { place, after, line } => {
-                print_window(place, line);
+                print_window(rt, place, line)?;
                 from = after;
             }
         }
@@ -102,21 +97,23 @@ fn print_windows(recording: &[u8]) -> u8
 }
 
 // Prints the windows of an input of which these symbols were kept and so many were counted; gives the closing number.
-fn walk(kept: &[u8], count: u64) -> u8
+#[tactic(auto, using(crate::proofs::Closing::too_long))]
+fn walk(rt: &impl Print, kept: &[u8], count: u64) -> io::Result<u8>
     requires { length kept.now ≡ 65536 }
-    ensures { result ≡ closing_of count }
+    ensures ok { IfOk result (λ n. n ≡ closing_of count) }
+    ensures err { OnErr result (count ≤ 65536) }
 {
     if count > 65536 {
-        return 1;
+        return Ok(1);
     }
     let n = count as usize;
-    print_windows(&kept[..n])
+    print_windows(rt, &kept[..n])
 }
 
 // Prints the windows of the whole input, and the closing number.
-fn main() {
+fn main(rt: HostRuntime) -> io::Result<()> {
     let mut kept = [0u8; 65536];
-    let count = take_all(&mut kept);
-    let closing = walk(&kept, count);
-    print(closing as u64, b'\n');
+    let count = take_all(&mut rt.stdin(), &mut kept)?;
+    let closing = walk(&rt, &kept, count)?;
+    println!(rt; "{closing}")
 }

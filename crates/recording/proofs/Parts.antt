@@ -67,12 +67,6 @@ module _ (whole r : Bor (List ℕ)) (from : ℕ) (p : PartOf whole (found_from w
       let n : given.after - given.start ≡ 600 = omega arith in
       ap length p.holds ∙ part_long whole.now given.start (given.after - given.start) (omega arith) ∙ n
 
-  -- above 65,536 symbols, 1, and the empty part at the start
-  pub too_long : 65536 < length whole.now → (given ≡ refused) × (r.ref_ptr ≡ whole.ref_ptr) × (r.now ≡ [])
-  too_long h =
-      let e : given ≡ refused = found_refused whole.now from h in
-      (e, (rw e at p.lies) ∙ ap (λ (o : ℕ). (whole.ref_ptr.0, o)) (zero-add whole.ref_ptr.1), rw e at p.holds)
-
   -- with none left, 4, and the empty part at the end
   pub none_left : given.number ≡ 4
       → (given ≡ none (length whole.now)) × (r.ref_ptr ≡ (whole.ref_ptr.0, length whole.now + whole.ref_ptr.1)) × (r.now ≡ [])
@@ -80,3 +74,9 @@ module _ (whole r : Bor (List ℕ)) (from : ℕ) (p : PartOf whole (found_from w
       let e : given ≡ none (length whole.now) = none_of whole.now from given (found whole.now from) n in
       let z : length whole.now - length whole.now ≡ 0 = omega arith in
       (e, rw e at p.lies, rw (e, z) at p.holds)
+
+  -- above 65,536 symbols, 1, and the empty part at the start
+  pub too_long : 65536 < length whole.now → (given ≡ refused) × (r.ref_ptr ≡ whole.ref_ptr) × (r.now ≡ [])
+  too_long h =
+      let e : given ≡ refused = found_refused whole.now from h in
+      (e, (rw e at p.lies) ∙ ap (λ (o : ℕ). (whole.ref_ptr.0, o)) (zero-add whole.ref_ptr.1), rw e at p.holds)

@@ -1,6 +1,9 @@
 // Runs the outside vectors through the public calls, and prints for each file the rows that fail or are skipped and how many there were.
 #![tactic(auto)]
 
+use std::io::Read;
+use std::rt::Files;
+use std::{fs, io};
 use tally::{Outcome, Tally};
 
 mod input;
@@ -13,7 +16,7 @@ mod timing;
 mod walking;
 mod writing;
 
-#[derive(Drop)]
+#[derive(Clone, Copy)]
 enum File {
     Cases,
     Read,
@@ -54,34 +57,40 @@ fn outcome(file: File, row: &[u8], kept: &mut [u8; 600], count: &mut u64) -> Out
 
 // Runs the rows of a file, each read into `row`. The turns are counted down, from a number that no run uses up, since nothing says that a file
 // ends.
-fn run_rows(fd: i32, file: File, name: &[u8], row: &mut [u8]) -> Tally {
+fn run_rows(
+    rt: &impl Print,
+    rows: &mut impl Read,
+    file: File,
+    name: &str,
+    row: &mut [u8],
+) -> io::Result<Tally> {
     let size = size(file);
     let mut kept = [0u8; 600];
     let mut count = 0;
     let mut tally = Tally::none();
     let mut turns = u64::MAX;
-    while turns > 0 && row::next_row(fd, row, size) {
+    while turns > 0 && row::next_row(rows, row, size)? {
         let outcome = outcome(file, row, &mut kept, &mut count);
-        tally::name_row(name, line_of(file, row), outcome);
+        tally::name_row(rt, name, line_of(file, row), outcome)?;
         tally = tally.with(outcome);
         turns -= 1;
     }
-    tally
+    Ok(tally)
 }
 
-fn run(file: File, name: &[u8], path: &[u8]) {
-    let fd = os::open_read(path);
-    let mut row = io::buffer();
-    let tally = run_rows(fd, file, name, &mut row);
-    libc::close(fd);
-    tally::print_tally(name, tally);
+fn run(rt: &(impl Files + Print), file: File, name: &str, path: &str) -> io::Result<()> {
+    let mut rows = fs::open(rt, path)?;
+    let mut row = [0u8; 4096];
+    let tally = run_rows(rt, &mut rows, file, name, &mut row)?;
+    tally::print_tally(rt, name, tally)
 }
 
-fn main() {
-    run(File::Cases, b"cases", b"cases.txt");
-    run(File::Read, b"read", b"read.txt");
-    run(File::Write, b"write", b"write.txt");
-    run(File::Pair, b"pair", b"pair.txt");
-    run(File::Time, b"time", b"time.txt");
-    tally::print_tally(b"walk", walking::run());
+// Ends with an error where a file can't be opened or read, or a line can't be written.
+fn main(rt: HostRuntime) -> io::Result<()> {
+    run(&rt, File::Cases, "cases", "cases.txt")?;
+    run(&rt, File::Read, "read", "read.txt")?;
+    run(&rt, File::Write, "write", "write.txt")?;
+    run(&rt, File::Pair, "pair", "pair.txt")?;
+    run(&rt, File::Time, "time", "time.txt")?;
+    tally::print_tally(&rt, "walk", walking::run(&rt)?)
 }

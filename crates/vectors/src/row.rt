@@ -1,6 +1,8 @@
 // What a row of a file holds: numbers, bytes and letters by their columns.
 ghost use Rattle.std.specs.Prelude.{◌<◌};
 
+use std::io::{self, ErrorKind, Read};
+
 // What stands in a column; 0 past the row's end.
 fn at(row: &[u8], column: usize) -> u8 {
     if column < row.len() { row[column] } else { 0 }
@@ -57,10 +59,14 @@ pub fn flag(row: &[u8], first: u16, k: u8) -> bool {
 }
 
 // Reads the next row of a file; answers whether there was a whole one.
-pub fn next_row(fd: i32, row: &mut [u8], size: usize) -> bool {
+pub fn next_row(rows: &mut impl Read, row: &mut [u8], size: usize) -> io::Result<bool> {
     if size <= row.len() {
-        io::read_full(fd, &mut row[..size]) == size
+        match rows.read_exact(&mut row[..size]) {
+            Ok(()) => Ok(true),
+            Err(e) if e.kind() == ErrorKind::UnexpectedEof => Ok(false),
+            Err(e) => Err(e),
+        }
     } else {
-        false
+        Ok(false)
     }
 }

@@ -1,8 +1,8 @@
 // How the rows of a file came out, and what is printed of it.
-use libc::STDOUT_FILENO;
+use std::io;
 
 // How a row came out; one of several that make up an input is unfinished before the last.
-#[derive(Drop)]
+#[derive(Clone, Copy)]
 pub enum Outcome {
     Right,
     Wrong,
@@ -58,38 +58,18 @@ impl Tally {
     }
 }
 
-fn print(text: &[u8]) {
-    io::write_all(STDOUT_FILENO, text);
-}
-
-fn print_number(n: u64) {
-    io::print_decimal(STDOUT_FILENO, n);
-}
-
 // Names a row that was not right.
-pub fn name_row(file: &[u8], row: u64, outcome: Outcome) {
+pub fn name_row(rt: &impl Print, file: &str, row: u64, outcome: Outcome) -> io::Result<()> {
     match outcome {
-        Outcome::Right | Outcome::Unfinished => return,
-        Outcome::Wrong => {
-            print(file);
-            print(b": failed row ");
-        }
-        Outcome::Skipped => {
-            print(file);
-            print(b": skipped row ");
-        }
+        Outcome::Right | Outcome::Unfinished => Ok(()),
+        Outcome::Wrong => println!(rt; "{file}: failed row {row}"),
+        Outcome::Skipped => println!(rt; "{file}: skipped row {row}"),
     }
-    print_number(row);
-    print(b"\n");
 }
 
-pub fn print_tally(file: &[u8], tally: Tally) {
-    print(file);
-    print(b": ");
-    print_number(tally.run);
-    print(b" run, ");
-    print_number(tally.failed);
-    print(b" failed, ");
-    print_number(tally.skipped);
-    print(b" skipped\n");
+pub fn print_tally(rt: &impl Print, file: &str, tally: Tally) -> io::Result<()> {
+    println!(rt;
+        "{file}: {} run, {} failed, {} skipped",
+        tally.run, tally.failed, tally.skipped
+    )
 }

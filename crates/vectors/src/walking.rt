@@ -2,6 +2,9 @@
 use crate::row::next_row;
 use crate::tally::{Outcome, Tally};
 use crate::{row, tally};
+use std::io::Read;
+use std::rt::Files;
+use std::{fs, io};
 
 // The columns of a recording's length, of whether it is nothing but zeros, and of its symbols.
 const LENGTH: u16 = 17;
@@ -43,16 +46,23 @@ fn outcome(recording: &[u8], row: &[u8]) -> Outcome {
 }
 
 // Runs the next rows of `walk` over a recording.
-fn run_starts(walk: i32, recording: &[u8], rows: u64, row: &mut [u8], before: Tally) -> Tally {
+fn run_starts(
+    rt: &impl Print,
+    walk: &mut impl Read,
+    recording: &[u8],
+    rows: u64,
+    row: &mut [u8],
+    before: Tally,
+) -> io::Result<Tally> {
     let mut tally = before;
     let mut k = 0;
-    while k < rows && next_row(walk, row, WALK) {
+    while k < rows && next_row(walk, row, WALK)? {
         let outcome = outcome(recording, row);
-        tally::name_row(b"walk", row::number(row, 0, 0), outcome);
+        tally::name_row(rt, "walk", row::number(row, 0, 0), outcome)?;
         tally = tally.with(outcome);
         k += 1;
     }
-    tally
+    Ok(tally)
 }
 
 // A part of the symbols, at most all of them.
@@ -65,36 +75,43 @@ fn first<'a>(symbols: &'a [u8], n: usize) -> &'a [u8] {
 }
 
 // Runs the rows of `walk` over the recording of a row.
-fn run_recording(walk: i32, row: &[u8], before: Tally) -> Tally {
+fn run_recording(
+    rt: &impl Print,
+    walk: &mut impl Read,
+    row: &[u8],
+    before: Tally,
+) -> io::Result<Tally> {
     let rows = row::number(row, 0, 0);
     let n = row::number(row, LENGTH, 0) as usize;
-    let mut space = io::buffer();
+    let mut space = [0u8; 4096];
     if row::flag(row, ZEROS, 0) {
         let zeros = [0u8; 65537];
-        run_starts(walk, first(&zeros, n), rows, &mut space, before)
+        run_starts(rt, walk, first(&zeros, n), rows, &mut space, before)
     } else {
         let symbols = symbols(row);
-        run_starts(walk, first(&symbols, n), rows, &mut space, before)
+        run_starts(rt, walk, first(&symbols, n), rows, &mut space, before)
     }
 }
 
 // Runs all recordings, each read into `row`. The turns are counted down, from a number that no run uses up, since nothing says that a file ends.
-fn run_recordings(recordings: i32, walk: i32, row: &mut [u8]) -> Tally {
+fn run_recordings(
+    rt: &impl Print,
+    recordings: &mut impl Read,
+    walk: &mut impl Read,
+    row: &mut [u8],
+) -> io::Result<Tally> {
     let mut tally = Tally::none();
     let mut turns = u64::MAX;
-    while turns > 0 && next_row(recordings, row, RECORDING) {
-        tally = run_recording(walk, row, tally);
+    while turns > 0 && next_row(recordings, row, RECORDING)? {
+        tally = run_recording(rt, walk, row, tally)?;
         turns -= 1;
     }
-    tally
+    Ok(tally)
 }
 
-pub fn run() -> Tally {
-    let recordings = os::open_read(b"recordings.txt");
-    let walk = os::open_read(b"walk.txt");
-    let mut row = io::buffer();
-    let tally = run_recordings(recordings, walk, &mut row);
-    libc::close(recordings);
-    libc::close(walk);
-    tally
+pub fn run(rt: &(impl Files + Print)) -> io::Result<Tally> {
+    let mut recordings = fs::open(rt, "recordings.txt")?;
+    let mut walk = fs::open(rt, "walk.txt")?;
+    let mut row = [0u8; 4096];
+    run_recordings(rt, &mut recordings, &mut walk, &mut row)
 }

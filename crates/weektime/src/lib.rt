@@ -60,6 +60,7 @@ impl Week {
 }
 
 // Whether a count is outside 1 to 50,400.
+#[tactic(auto, using(crate::proofs::Counts::too_low, crate::proofs::Counts::above_one))]
 pub fn refused(t: Towc) -> bool
     ensures { result ≡ towc_refused t.0 }
 {

@@ -20,6 +20,6 @@ fn main() {
 
 #[cfg(not(library))]
 fn main() {
-    eprintln!("libnavic_c.a is not there: `rt staticlib navic_c`, or its folder in NAVIC_C_LIB");
+    eprintln!("libnavic_c.a is not there: `rt lib` in crates/navic_c, or its folder in NAVIC_C_LIB");
     std::process::exit(2);
 }

@@ -1,6 +1,6 @@
 -- Symbols that are all 0 or 1, and then by the sync's three answers. Assumes nothing.
 use mathlib.Core.Path.{◌≡◌, sym, ◌∙◌}
-use mathlib.Core.Bool.{Bool, true, false}
+use mathlib.Core.Bool.{Bool, true}
 use mathlib.Core.List.{List}
 use Prim.Native.Nat.{ℕ}
 use Rattle.bits.specs.Lists.{Bits, at_most, part}
@@ -23,10 +23,10 @@ module _ (s : List ℕ) (clean : at_most 1 s ≡ true) where
   received p e = sym (synced 1 s p clean (sym e))
 
 pub nearest_word-requires : goal.nearest_word-requires
-nearest_word-requires c = bits c.args.symbols.now (sym c.clean.ensures ∙ c.if-clean.true) false
+nearest_word-requires c = bits c.args.symbols.now (sym c.clean.ensures ∙ c.if-clean.true) _
 
 pub nearest_word-requires-in-TurnedOver : goal.nearest_word-requires-in-TurnedOver
-nearest_word-requires-in-TurnedOver c = bits c.args.symbols.now (sym c.clean.ensures ∙ c.if-clean.true) true
+nearest_word-requires-in-TurnedOver c = bits c.args.symbols.now (sym c.clean.ensures ∙ c.if-clean.true) _
 
 pub returns-in-Upright : goal.returns-in-Upright
 returns-in-Upright c = c.nearest_word.ensures ∙ received c.args.symbols.now (sym c.clean.ensures ∙ c.if-clean.true) Upright c.in-Upright.ensures
