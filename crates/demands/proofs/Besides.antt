@@ -36,11 +36,11 @@ module _ (f : Family) (s : List ℕ) where
 
   -- by the check, the idle pattern and the time
   by_all : (a : Bool) (n : ℕ) (t : Bool) → Taken s t word n (agrees_of word) → Beside (by_check f a word n t)
-  by_all true n t near = go (f.untimely (f.from_body (take 262 word)))
+  by_all true n t near = go (f.untimely (f.from_body (take 262 word))) _
     where
-      go : (l : Bool) → Beside (pick l (refused bad_time n t) (done (f.from_body (take 262 word)) n t))
-      go true = near
-      go false = near
+      go : (l : Bool) (e : f.Entry) → Beside (pick l (refused bad_time n t) (done e n t))
+      go true e = near
+      go false e = near
   by_all false n t near = go (f.idle word)
     where
       go : (i : Bool) → Beside (refused (pick i is_idle bad_check) n t)

@@ -20,7 +20,7 @@ use Rattle.link.specs.Promise.{polarity_of}
 use Rattle.link.proofs.Taken as taken
 use Rattle.link.proofs.Taken.{Outcome, outcome, some_word_ends}
 use Rattle.demands.specs.Refusals.{Refusal, Given, none, here, later}
-use Rattle.demands.specs.Family.{Family, Lawful, Reading, done, refused, not_of_600, little_room, is_idle, bad_check, bad_time, SymbolAbove, reader_conditions, writer_conditions, reading_number, by_link, by_check, by_time, reading_of, writing_of}
+use Rattle.demands.specs.Family.{Family, Lawful, Reading, refused, not_of_600, little_room, is_idle, bad_check, SymbolAbove, reader_conditions, writer_conditions, reading_number, by_link, by_check, by_time, reading_of, writing_of}
 
 -- one number only
 pub given_one : {rs : List Refusal} {n m : ℕ} → Given rs n → Given rs m → n ≡ m
@@ -87,14 +87,23 @@ module _ (f : Family) (s : List ℕ) (room : ℕ) where
   w : List ℕ
   w = (receive_of 1 s).word
 
-  -- 7, and done
+  -- 7, and done: the time's test alone decides the number
+  late_seven : (e : f.Entry) (n : ℕ) (t : Bool) → f.untimely e ≡ true → reading_number (by_time f e n t) ≡ 7
+  late_seven e n t late = grind arith
+
+  timely_zero : (e : f.Entry) (n : ℕ) (t : Bool) → f.untimely e ≡ false → reading_number (by_time f e n t) ≡ 0
+  timely_zero e n t timely = grind arith
+
+  numbered : {rs : List Refusal} {k : ℕ} → reading_number (reading_of f s room) ≡ k → Given rs k → Given rs (reading_number (reading_of f s room))
+  numbered {rs} e g = subst (λ (k : ℕ). Given rs k) (sym e) g
+
   after_check : (n : ℕ) (t : Bool) → reading_of f s room ≡ by_time f (f.from_body (take 262 w)) n t → Follows 7
   unfolding reader_conditions rest Follows w
   after_check n t e =
       by_cases (f.untimely (f.from_body (take 262 w)))
-      (λ late. given_as (e ∙ ap (λ (b : Bool). pick b (refused bad_time n t) (done (f.from_body (take 262 w)) n t)) late) (here late))
+      (λ late. numbered (ap reading_number e ∙ late_seven _ n t late) (here late))
       (λ timely.
-      given_as (e ∙ ap (λ (b : Bool). pick b (refused bad_time n t) (done (f.from_body (take 262 w)) n t)) timely)
+      numbered (ap reading_number e ∙ timely_zero _ n t timely)
       (later (λ late. let z : ◌≡◌ {A = ℕ} 0 1 = (cc) in omega arith) none))
 
   -- 5 or 6
