@@ -27,12 +27,16 @@ PARTS = {
     "earth_iono": [("Table 18", "Figure 18")],
 }
 
-# the consts, each as the lists that it holds one behind the other
+# the consts and the macros that put the common rows round them, each as the lists that it holds one behind the other
 CONSTS = {
-    "HEAD": ["head", "message_id", "prn"],
-    "SUBFRAMES": ["subframe1", "subframe2"],
-    "GRID": ["iono_grid"],
-    "MESSAGES": ["almanac", "time_offsets", "earth_iono"],
+    "subframe!": ["head"],
+    "message!": ["message_id", "prn"],
+    "SUBFRAME1": ["subframe1"],
+    "SUBFRAME2": ["subframe2"],
+    "IONO_GRID": ["iono_grid"],
+    "ALMANAC": ["almanac"],
+    "TIME_OFFSETS": ["time_offsets"],
+    "EARTH_IONO": ["earth_iono"],
     "DATA": ["data_bytes"],
 }
 
@@ -182,10 +186,9 @@ def data(lines, message_id, prn):
 def consts():
     text = open(SOURCE, encoding="utf-8").read()
     found = {}
-    for name, count, body in re.findall(r"^const (\w+): \[Row; (\d+)\] = \[\n(.*?)^\];", text, re.M | re.S):
+    macros = [(name + "!", body) for name, body in re.findall(r"^macro_rules! (\w+) \{\n(.*?)^\}", text, re.M | re.S)]
+    for name, body in macros + re.findall(r"^const (\w+): &\[Row\] = &\w+!\[\n(.*?)^\];", text, re.M | re.S):
         rows = re.findall(r"Row\((\d+), (\d+), (true|false), (-?\d+)\)", body)
-        if len(rows) != int(count):
-            raise SystemExit("%s has %d rows and says %s" % (name, len(rows), count))
         found[name] = [(int(f), int(w), s == "true", int(e)) for f, w, s, e in rows]
     return found
 

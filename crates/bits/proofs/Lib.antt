@@ -3,6 +3,7 @@ pub mod Build
 pub mod Complement
 pub mod Fill
 pub mod Lists
+pub mod Made
 pub mod Numbers
 pub mod Parts
 pub mod Splice

@@ -4,19 +4,6 @@
 ghost use Rattle.std.specs.Prelude.{◌≡◌, ◌%◌};
 ghost use Rattle.bits.specs.Lists.{at};
 
-// The same number, in a wider type.
-pub fn wide(x: u8) -> usize
-    ensures { result ≡ x }
-{
-    x as usize
-}
-
-pub fn wide16(x: u8) -> u16
-    ensures { result ≡ x }
-{
-    x as u16
-}
-
 // The lowest bit of a byte.
 pub fn lowest(x: u8) -> u8
     ensures { result ≡ x % 2 }
@@ -28,5 +15,5 @@ pub fn lowest(x: u8) -> u8
 pub fn bit(word: &[u8], i: usize) -> u8
     ensures { result ≡ at word.now i % 2 }
 {
-    if i < word.len() { lowest(word[i]) } else { 0 }
+    word.get(i).map_or(0, |b| lowest(*b))
 }

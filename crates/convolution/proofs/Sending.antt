@@ -1,10 +1,13 @@
--- The encoder's loop: its six numbers are the six bits before, modulo 2.
+-- The encoder's loop: its register holds the seven newest bits.
 -- Assumes nothing.
 use mathlib.Core.Path.{◌≡◌, refl, sym, ◌∙◌}
 use mathlib.Core.List.{List, [], ◌∷◌, ◌++◌, reverse_aux, reverse_aux-append}
-use Prim.Native.Nat.{ℕ, zero, suc, ◌+◌, ◌*◌, ◌%◌, ◌<◌, ◌≤◌}
+use Prim.Native.Nat.{ℕ, zero, suc, ◌+◌, ◌*◌, ◌/◌, ◌%◌, ◌<◌}
 use native.Mathlib.Numerals.{add-one}
 use native.Mathlib.Omega.{arith}
+use lib.Count.{ones}
+use Rattle.std.specs.Prelude.{bit_and, count_ones}
+use Rattle.bits.proofs.Test.{agree}
 use lib.ListN.{length, set, replicate, take, length-append}
 use lib.Seq.{take-suc, ext_get_or}
 use Rattle.bits.proofs.Fill.{Put, put_none, put_two}
@@ -40,58 +43,62 @@ encode_at (b ∷ w) x (suc i) h =
     let f : 2 * suc i + 1 ≡ suc (suc (2 * i + 1)) = omega arith in
     rw (f, e) (encode_at w (b ∷ x) i (omega arith))
 
--- each is the bit so far before, modulo 2
-pub record Window (x : List ℕ) (a b c d e f : ℕ) : Type 0 where
-  pub a_is : a ≡ ago x 0 % 2
-  pub b_is : b ≡ ago x 1 % 2
-  pub c_is : c ≡ ago x 2 % 2
-  pub d_is : d ≡ ago x 3 % 2
-  pub e_is : e ≡ ago x 4 % 2
-  pub f_is : f ≡ ago x 5 % 2
+-- ---- the register: seven bits, the newest worth 64
+-- the bits that the generators use
+ones1 : (r : ℕ) → r < 128 → count_ones (bit_and r 121) % 2 ≡ (r / 64 + r / 32 + r / 16 + r / 8 + r) % 2
+unfolding ones
+ones1 = agree (λ (r : ℕ). count_ones (bit_and r 121) % 2) (λ (r : ℕ). (r / 64 + r / 32 + r / 16 + r / 8 + r) % 2) 128 tt
 
-plus : (s u p : ℕ) → s % 2 ≡ u % 2 → (s + p % 2) % 2 ≡ (u + p) % 2
-plus s u p h = omega arith
+ones2 : (r : ℕ) → r < 128 → count_ones (bit_and r 91) % 2 ≡ (r / 64 + r / 16 + r / 8 + r / 2 + r) % 2
+unfolding ones
+ones2 = agree (λ (r : ℕ). count_ones (bit_and r 91) % 2) (λ (r : ℕ). (r / 64 + r / 16 + r / 8 + r / 2 + r) % 2) 128 tt
 
-odd_sum : (p q r s t : ℕ) → (p % 2 + q % 2 + r % 2 + s % 2 + t % 2) % 2 ≡ (p + q + r + s + t) % 2
-odd_sum p q r s t = plus _ (p + q + r + s) t (plus _ (p + q + r) s (plus _ (p + q) r (plus _ p q (omega arith))))
+module _ (a b c d e f g : ℕ) where
+  -- each bit is a number's lowest one
+  abbrev pub spelt : ℕ
+  spelt = 64 * (a % 2) + 32 * (b % 2) + 16 * (c % 2) + 8 * (d % 2) + 4 * (e % 2) + 2 * (f % 2) + g % 2
 
-pub record Sent (w old new : List ℕ) (a b c d e f i : ℕ) : Type 0 where
-  pub upto : i ≤ length w + 6
-  pub window : Window (past w i) a b c d e f
+  spelt_lt : spelt < 128
+  spelt_lt = omega arith
+
+  symbol1 : count_ones (bit_and spelt 121) % 2 ≡ (a + b + c + d + g) % 2
+  symbol1 = ones1 spelt spelt_lt ∙ omega arith
+
+  symbol2 : count_ones (bit_and spelt 91) % 2 ≡ (a + c + d + f + g) % 2
+  symbol2 = ones2 spelt spelt_lt ∙ omega arith
+
+abbrev pub Holds : List ℕ → ℕ → Type 0
+Holds x r = r ≡ spelt (ago x 0) (ago x 1) (ago x 2) (ago x 3) (ago x 4) (ago x 5) (ago x 6)
+
+pub record Sent (w old new : List ℕ) (register i : ℕ) : Type 0 where
+  pub holds : Holds (past w i) register
   pub put : Put (ago (coded_form w)) 0 (2 * i) old new
 
-pub sent_none : (w l : List ℕ) → Sent w l l 0 0 0 0 0 0 0
-sent_none w l =
-    record {
-      upto = omega arith;
-      window = record { a_is = refl; b_is = refl; c_is = refl; d_is = refl; e_is = refl; f_is = refl };
-      put = put_none (ago (coded_form w)) 0 l;
-    }
+pub sent_none : (w l : List ℕ) → Sent w l l 0 0
+sent_none w l = record { holds = refl; put = put_none (ago (coded_form w)) 0 l }
 
-module _ {w old new : List ℕ} {t a b c d e f i : ℕ} (h : i < length w + 6) (is : t ≡ ago w i % 2) (v : Sent w old new a b c d e f i) where
-  symbols : ((t + a + b + c + f) % 2 ≡ ago (coded_form w) (2 * i)) × ((t + b + c + e + f) % 2 ≡ ago (coded_form w) (2 * i + 1))
+module _ {w old new : List ℕ} {r r' i t : ℕ} (long : length w ≡ 286) (h : i < 292) (is : t ≡ ago w i % 2) (next : r' ≡ r / 2 + 64 * t)
+    (v : Sent w old new r i) where
+  holds : Holds (past w (suc i)) r'
+  holds = rw (past_more w i (omega arith)) (omega (arith, v.holds))
+
+  symbols : (count_ones (bit_and r' 121) % 2 ≡ ago (coded_form w) (2 * i)) × (count_ones (bit_and r' 91) % 2 ≡ ago (coded_form w) (2 * i + 1))
   unfolding coded_form g1 g2
   symbols =
-      let x : List ℕ = past w i in
-      let g = rw (past_more w i h) at (encode_at (w ++ six_zeros) six_zeros i (omega (arith, length-append w six_zeros))) in
-      let k = v.window in (
-        rw (is, k.a_is, k.b_is, k.c_is, k.f_is) (odd_sum (ago w i) (ago x 0) (ago x 1) (ago x 2) (ago x 5) ∙ sym g.0),
-        rw (is, k.b_is, k.c_is, k.e_is, k.f_is) (odd_sum (ago w i) (ago x 1) (ago x 2) (ago x 4) (ago x 5) ∙ sym g.1),
+      let x : List ℕ = past w (suc i) in
+      let g = encode_at (w ++ six_zeros) six_zeros i (omega (arith, length-append w six_zeros)) in (
+        rw holds (symbol1 (ago x 0) (ago x 1) (ago x 2) (ago x 3) (ago x 4) (ago x 5) (ago x 6) ∙ sym g.0),
+        rw holds (symbol2 (ago x 0) (ago x 1) (ago x 2) (ago x 3) (ago x 4) (ago x 5) (ago x 6) ∙ sym g.1),
       )
 
-  pub sent_more : {x y : ℕ} → x ≡ (t + a + b + c + f) % 2 → y ≡ (t + b + c + e + f) % 2 → length old ≡ 2 * (length w + 6)
-      → Sent w old (set (set new (2 * i) x) (2 * i + 1) y) t a b c d e (i + 1)
+  pub sent_more : {x y : ℕ} → x ≡ count_ones (bit_and r' 121) % 2 → y ≡ count_ones (bit_and r' 91) % 2 → length old ≡ 584
+      → Sent w old (set (set new (2 * i) x) (2 * i + 1) y) r' (i + 1)
   sent_more {x} {y} p q l =
-      let k = v.window in
       record {
-        upto = omega arith;
-        window =
-            rw (add-one i, past_more w i h)
-            (record { a_is = is; b_is = k.a_is; c_is = k.b_is; d_is = k.c_is; e_is = k.d_is; f_is = k.e_is });
+        holds = rw (add-one i) holds;
         put = put_two (ago (coded_form w)) i x y old new (omega arith) (p ∙ symbols.0) (q ∙ symbols.1) v.put;
       }
 
-pub sent_all : {w old new : List ℕ} {a b c d e f i : ℕ} → length old ≡ 2 * (length w + 6) → i ≡ length w + 6
-    → Sent w old new a b c d e f i → new ≡ coded_form w
-sent_all {w} {new = new} l q v =
-    ext_get_or 0 new (coded_form w) (v.put.long ∙ l ∙ sym (coded_long w)) (λ k h. v.put.here k k (omega (arith, v.put.long)) (omega arith))
+pub sent_all : {w old new : List ℕ} {r i : ℕ} → length w ≡ 286 → length old ≡ 584 → i ≡ 292 → Sent w old new r i → new ≡ coded_form w
+sent_all {w} {new = new} long l q v =
+    ext_get_or 0 new (coded_form w) (v.put.long ∙ l ∙ omega (arith, coded_long w)) (λ k h. v.put.here k k (omega (arith, v.put.long)) (omega arith))

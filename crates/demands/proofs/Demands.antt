@@ -13,16 +13,16 @@ use Rattle.bits.proofs.Lists.{at_most_take}
 use Rattle.bits.proofs.Sum.{differences_none}
 use Rattle.crc24q.specs.Check.{agrees_of, with_check}
 use Rattle.crc24q.proofs.Word.{with_check_long, with_check_bits, with_check_agrees, take_with_check, agrees_with_check}
-use Rattle.framing.specs.Frame.{turned_if, coded_of}
+use Rattle.framing.specs.Frame.{turned_if}
 use Rattle.framing.proofs.Subframe.{turned_long}
-use Rattle.link.specs.declared.Received.{Received}
-use Rattle.link.specs.Link.{sent_of, word_of, corrected_of, receive_of}
+use Rattle.link.specs.Link.{sent_of, receive_of, word_in}
 use Rattle.link.specs.Promise.{IsWord, altered_coded, Altered, Taken}
 use Rattle.link.proofs.Recovered.{recovered, unaltered}
 use Rattle.link.proofs.Taken as taken
-use Rattle.link.proofs.Taken.{Outcome, outcome, nearest_taken}
+use Rattle.link.proofs.Taken.{Outcome, outcome}
 use Rattle.demands.specs.Family.{IsBody, Family, Lawful, Why, done, refused, bad_time, by_check, by_time, reading_of, symbols_of}
-use Rattle.demands.proofs.Ordered.{by_link_lem, by_word, not_600, little_room_lem}
+use Rattle.demands.proofs.Ordered.{word_taken, by_link_lem, by_word, not_600, little_room_lem}
+use Rattle.std.proofs.lemmas.Bool.{true≢false}
 
 module _ (f : Family) (l : Lawful f) where
   -- the word of an entry that the writer takes
@@ -68,15 +68,15 @@ module _ (f : Family) (l : Lawful f) where
   -- DEMAND 2, the other way: what the reader takes, written again, gives the nearest word's 600 upright symbols
   module _ (s : List ℕ) (room : ℕ) (e : f.Entry) (n : ℕ) (t : Bool) (read : reading_of f s room ≡ done e n t) where
     w : List ℕ
-    w = (receive_of 1 s).word
+    w = word_in (receive_of 1 s)
 
     pub record Again : Type 0 where
       pub accepted : f.refusal e ≡ 0
-      pub symbols : symbols_of f e ≡ sent_of (receive_of 1 s).word
-      pub nearest : Taken s t (receive_of 1 s).word n true
+      pub symbols : symbols_of f e ≡ sent_of (word_in (receive_of 1 s))
+      pub nearest : Taken s t (word_in (receive_of 1 s)) n true
 
     never : (y : Why) (m : ℕ) (b : Bool) → reading_of f s room ≡ refused y m b → Again
-    never y m b q = absurd (let z : ◌≡◌ {A = ℕ} 0 1 = (cc) in omega arith)
+    never y m b q = absurd (true≢false (cc))
 
     -- the entry is that of the nearest word's body
     module _ (m : ℕ) (b : Bool) (near : Taken s b w m (agrees_of w)) (good : agrees_of w ≡ true) where
@@ -116,11 +116,7 @@ module _ (f : Family) (l : Lawful f) where
     by_outcome long enough (taken.symbol c r) = never _ _ _ (by_link_lem f s room long enough _ r)
     by_outcome long enough (taken.no_sync c m r) = never _ _ _ (by_link_lem f s room long enough _ r)
     by_outcome long enough (taken.word b bits sync r) =
-        let m = corrected_of 1 (coded_of 1 b s) (word_of 1 (coded_of 1 b s)) in
-        let near = nearest_taken s m b _ (ap (λ (x : Received). x.answer) r) in
-        by_check_lem (agrees_of w) m b refl
-        (subst (λ (v : List ℕ). Taken s b w m (agrees_of v)) (sym (ap (λ (x : Received). x.word) r)) near)
-        (by_word f s room long enough m b _ r)
+        by_check_lem (agrees_of w) _ b refl (word_taken s _ _ b r) (by_word f s room long enough _ b _ r)
 
     pub write_again : Again
     write_again = elim (ℕ_discrete (length s) 600) [

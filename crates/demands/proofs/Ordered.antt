@@ -9,18 +9,21 @@ use native.Mathlib.Omega.{arith}
 use borrow.Author.Tests.{eq-eqb, ne_eqb, le-leb, lt-leb, leb-false}
 use lib.Dec.{leb}
 use lib.ListN.{length, take, drop}
+use Rattle.std.specs.Prelude.{Result, Ok}
 use Rattle.bits.specs.Lists.{pick, both, at_most}
 use Rattle.bits.proofs.Lists.{at_most_at, at_most_holds, at_most_true}
 use Rattle.crc24q.specs.Check.{agrees_of}
-use Rattle.framing.specs.declared.Polarity.TheVariants.{Missing}
-use Rattle.link.specs.declared.Answer.TheVariants as link
+use Rattle.link.specs.declared.LinkRefusal.{LinkRefusal}
 use Rattle.link.specs.declared.Received.{Received}
-use Rattle.link.specs.Link.{receive_of}
-use Rattle.link.specs.Promise.{polarity_of}
+use Rattle.link.specs.Link.{receive_of, word_in}
+use Rattle.link.specs.Promise.{polarity_of, Taken}
+use Rattle.link.proofs.Recovered.{received}
 use Rattle.link.proofs.Taken as taken
-use Rattle.link.proofs.Taken.{Outcome, outcome, some_word_ends}
+use Rattle.link.proofs.Taken.{Outcome, outcome, some_word_ends, nearest_taken}
 use Rattle.demands.specs.Refusals.{Refusal, Given, none, here, later}
 use Rattle.demands.specs.Family.{Family, Lawful, Reading, refused, not_of_600, little_room, is_idle, bad_check, SymbolAbove, reader_conditions, writer_conditions, reading_number, by_link, by_check, by_time, reading_of, writing_of}
+use Rattle.std.proofs.lemmas.Bool.{true≢false}
+use Rattle.std.proofs.lemmas.Option.{none-some}
 
 -- one number only
 pub given_one : {rs : List Refusal} {n m : ℕ} → Given rs n → Given rs m → n ≡ m
@@ -33,7 +36,7 @@ given_one (later c g) (later d h) = given_one g h
 -- ---- the reader
 some_above : (p : ℕ) (s : List ℕ) → at_most p s ≡ false → SymbolAbove p s
 unfolding at_most
-some_above p [] e = absurd (let z : ◌≡◌ {A = ℕ} 0 1 = (cc) in omega arith)
+some_above p [] e = absurd (true≢false (cc))
 some_above p (b ∷ s) e = go (leb b p) refl e (some_above p s)
   where
     go : (t : Bool) → leb b p ≡ t → both t (at_most p s) ≡ false → (at_most p s ≡ false → SymbolAbove p s) → SymbolAbove p (b ∷ s)
@@ -45,14 +48,15 @@ some_above p (b ∷ s) e = go (leb b p) refl e (some_above p s)
 none_above : (p : ℕ) (s : List ℕ) → at_most p s ≡ true → SymbolAbove p s → ⊥
 none_above p s e r = omega (arith, r.above, at_most_at p s (at_most_holds p s e) r.place)
 
-not_missing : (t : Bool) → polarity_of t ≡ Missing → ⊥
-not_missing true e = let z : ◌≡◌ {A = ℕ} 0 1 = (cc) in omega arith
-not_missing false e = let z : ◌≡◌ {A = ℕ} 0 1 = (cc) in omega arith
-
 -- true or false
 by_cases : {A : Type 1} (b : Bool) → (b ≡ true → A) → (b ≡ false → A) → A
 by_cases true then other = then refl
 by_cases false then other = other refl
+
+-- the word that was received is the nearest
+pub word_taken : (s w : List ℕ) (n : ℕ) (t : Bool) → receive_of 1 s ≡ Ok (received w n t)
+    → Taken s t (word_in (receive_of 1 s)) n (agrees_of (word_in (receive_of 1 s)))
+word_taken s w n t e = subst (λ (v : List ℕ). Taken s t v n (agrees_of v)) (sym (ap word_in e)) (nearest_taken s (received w n t) e)
 
 module _ (f : Family) (s : List ℕ) (room : ℕ) where
   pub not_600 : (length s ≡ 600 → ⊥) → reading_of f s room ≡ refused not_of_600 0 false
@@ -65,15 +69,14 @@ module _ (f : Family) (s : List ℕ) (room : ℕ) where
     little_room_lem h = rw (eq-eqb (length s) 600 long, lt-leb 36 room h) refl
 
     module _ (enough : 36 ≤ room) where
-      pub by_link_lem : (r : Received) → receive_of 1 s ≡ r → reading_of f s room ≡ by_link f r.answer r.word
+      pub by_link_lem : (r : Result Received LinkRefusal) → receive_of 1 s ≡ r → reading_of f s room ≡ by_link f r
       unfolding reading_of
       by_link_lem r e = rw (eq-eqb (length s) 600 long, le-leb 36 room enough, e) refl
 
       -- where there is a nearest word w, its check decides, and then its time
-      pub by_word : (n : ℕ) (t : Bool) (w : List ℕ) → receive_of 1 s ≡ record { answer = link.Word n t (agrees_of w); word = w }
-          → reading_of f s room ≡ by_check f (agrees_of (receive_of 1 s).word) (receive_of 1 s).word n t
-      by_word n t w r =
-          by_link_lem _ r ∙ ap (λ (v : List ℕ). by_check f (agrees_of v) v n t) (sym (ap (λ (x : Received). x.word) r))
+      pub by_word : (n : ℕ) (t : Bool) (w : List ℕ) → receive_of 1 s ≡ Ok (received w n t)
+          → reading_of f s room ≡ by_check f (agrees_of (word_in (receive_of 1 s))) (word_in (receive_of 1 s)) n t
+      by_word n t w r = by_link_lem _ r ∙ ap (λ (v : List ℕ). by_check f (agrees_of v) v n t) (sym (ap word_in r))
 
   given_as : {rs : List Refusal} {y : Reading f} → reading_of f s room ≡ y → Given rs (reading_number y) → Given rs (reading_number (reading_of f s room))
   given_as {rs} e g = subst (λ (y : Reading f). Given rs (reading_number y)) (sym e) g
@@ -85,7 +88,7 @@ module _ (f : Family) (s : List ℕ) (room : ℕ) where
   Follows k = Given (rest k) (reading_number (reading_of f s room))
 
   w : List ℕ
-  w = (receive_of 1 s).word
+  w = word_in (receive_of 1 s)
 
   -- 7, and done: the time's test alone decides the number
   late_seven : (e : f.Entry) (n : ℕ) (t : Bool) → f.untimely e ≡ true → reading_number (by_time f e n t) ≡ 7
@@ -104,7 +107,7 @@ module _ (f : Family) (s : List ℕ) (room : ℕ) where
       (λ late. numbered (ap reading_number e ∙ late_seven _ n t late) (here late))
       (λ timely.
       numbered (ap reading_number e ∙ timely_zero _ n t timely)
-      (later (λ late. let z : ◌≡◌ {A = ℕ} 0 1 = (cc) in omega arith) none))
+      (later (λ late. true≢false (cc)) none))
 
   -- 5 or 6
   after_word : (n : ℕ) (t : Bool) → reading_of f s room ≡ by_check f (agrees_of w) w n t → Follows 5
@@ -112,14 +115,14 @@ module _ (f : Family) (s : List ℕ) (room : ℕ) where
   after_word n t e =
       by_cases (agrees_of w)
       (λ good.
-      let never : agrees_of w ≡ false → ⊥ = λ bad. let z : ◌≡◌ {A = ℕ} 0 1 = (cc) in omega arith in
+      let never : agrees_of w ≡ false → ⊥ = λ bad. true≢false (cc) in
       later (λ c. never c.0) (later (λ c. never c.0) (after_check n t (e ∙ ap (λ (a : Bool). by_check f a w n t) good))))
       (λ bad.
       let spoilt = e ∙ ap (λ (a : Bool). by_check f a w n t) bad in
       by_cases (f.idle w)
       (λ is. given_as (spoilt ∙ ap (λ (b : Bool). refused (pick b is_idle bad_check) n t) is) (here (bad, is)))
       (λ not.
-      later (λ c. let z : ◌≡◌ {A = ℕ} 0 1 = (cc) in omega arith)
+      later (λ c. true≢false (cc))
       (given_as (spoilt ∙ ap (λ (b : Bool). refused (pick b is_idle bad_check) n t) not) (here (bad, not)))))
 
   -- 3, 4 and 10
@@ -128,7 +131,7 @@ module _ (f : Family) (s : List ℕ) (room : ℕ) where
   after_room long enough (taken.symbol c r) = given_as (by_link_lem long enough _ r) (here (some_above 1 s c))
   after_room long enough (taken.no_sync c m r) = later (none_above 1 s c) (given_as (by_link_lem long enough _ r) (here m))
   after_room long enough (taken.word t bits sync r) =
-      later (none_above 1 s (at_most_true 1 s bits)) (later (λ m. not_missing t (sym sync ∙ m)) (later some_word_ends (after_word _ t (by_word long enough _ t _ r))))
+      later (none_above 1 s (at_most_true 1 s bits)) (later (λ m. none-some (polarity_of t) (sym m ∙ sync)) (later some_word_ends (after_word _ t (by_word long enough _ t _ r))))
 
   -- 2
   after_length : length s ≡ 600 → Follows 1

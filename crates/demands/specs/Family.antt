@@ -1,14 +1,14 @@
 -- Reading and writing for any family of messages: what a family brings, and what the reader and the writer answer and leave in the lent bytes
 -- (01, "Numbers that the calls give"). Assumes nothing.
-use Rattle.std.specs.Prelude.{◌≡◌, Bool, true, false, List, [], ◌∷◌, ◌++◌, ℕ, ◌*◌, ◌<◌, eqb, leb, length, take, drop}
+use Rattle.std.specs.Prelude.{◌≡◌, Bool, true, false, List, [], ◌∷◌, ◌++◌, ℕ, ◌*◌, ◌<◌, eqb, leb, length, take, drop, None, Result, Ok, Err}
 use Rattle.bits.specs.Lists.{at, pick, part, build, Bits}
 use Rattle.bits.specs.Numbers.{number}
 use Rattle.crc24q.specs.Check.{agrees_of, with_check}
 use Rattle.framing.specs.Sync.{sync_of}
-use Rattle.framing.specs.declared.Polarity.TheVariants.{Missing}
-use Rattle.link.specs.declared.Answer.{Answer}
-use Rattle.link.specs.declared.Answer.TheVariants as link
-use Rattle.link.specs.Link.{sent_of, receive_of}
+use Rattle.link.specs.declared.LinkRefusal.{LinkRefusal}
+use Rattle.link.specs.declared.LinkRefusal.TheVariants as link
+use Rattle.link.specs.declared.Received.{Received}
+use Rattle.link.specs.Link.{sent_of, receive_of, word_in}
 use Rattle.link.specs.Promise.{NoWordEnds}
 use Rattle.demands.specs.Refusals.{Refusal, Given}
 
@@ -51,11 +51,11 @@ pub record SymbolAbove (p : ℕ) (s : List ℕ) : Type 0 where
 -- the reader's refusals of the symbols s, lent `room` bytes, in their order; w is the nearest word
 unfoldable pub reader_conditions : Family → List ℕ → ℕ → List Refusal
 reader_conditions f s room =
-    let w = (receive_of 1 s).word in
+    let w = word_in (receive_of 1 s) in
     record { number = 1; condition = length s ≡ 600 → ⊥ } ∷
     record { number = 2; condition = room < 36 } ∷
     record { number = 3; condition = SymbolAbove 1 s } ∷
-    record { number = 4; condition = sync_of 1 (take 16 s) ≡ Missing } ∷
+    record { number = 4; condition = sync_of 1 (take 16 s) ≡ None } ∷
     record { number = 10; condition = NoWordEnds } ∷
     record { number = 5; condition = (agrees_of w ≡ false) × (f.idle w ≡ true) } ∷
     record { number = 6; condition = (agrees_of w ≡ false) × (f.idle w ≡ false) } ∷
@@ -77,7 +77,7 @@ pub data Why : Type 0 where
   bad_check : Why
   bad_time : Why
 
--- the paper's numbers
+-- README's numbers
 abbrev pub number_of : Why → ℕ
 number_of not_of_600 = 1
 number_of little_room = 2
@@ -110,17 +110,17 @@ module _ (f : Family) where
   by_check true w n t = by_time (f.from_body (take 262 w)) n t
   by_check false w n t = refused (pick (f.idle w) is_idle bad_check) n t
 
-  abbrev pub by_link : Answer → List ℕ → Reading f
-  by_link link.BadSymbol w = refused bad_symbol 0 false
-  by_link link.NoSync w = refused no_sync 0 false
-  by_link link.NoWord w = refused no_word 0 false
-  by_link (link.Word n t a) w = by_check a w n t
+  abbrev pub by_link : Result Received LinkRefusal → Reading f
+  by_link (Err link.BadSymbol) = refused bad_symbol 0 false
+  by_link (Err link.NoSync) = refused no_sync 0 false
+  by_link (Err link.NoWord) = refused no_word 0 false
+  by_link (Ok r) = by_check r.agrees r.word r.corrected r.turned_over
 
   -- reading the symbols s, lent `room` bytes
   unfoldable pub reading_of : List ℕ → ℕ → Reading f
   reading_of s room =
       pick (eqb (length s) 600)
-      (pick (leb 36 room) (by_link (receive_of 1 s).answer (receive_of 1 s).word) (refused little_room 0 false))
+      (pick (leb 36 room) (by_link (receive_of 1 s)) (refused little_room 0 false))
       (refused not_of_600 0 false)
 
   -- the lent bytes afterwards: where it is done, the word's bits and what was lent beyond them; else as they were
@@ -129,7 +129,7 @@ module _ (f : Family) where
   after_reading (refused y n t) w lent = lent
 
   unfoldable pub read_into : List ℕ → List ℕ → List ℕ
-  read_into s lent = after_reading (reading_of s (length lent)) (receive_of 1 s).word lent
+  read_into s lent = after_reading (reading_of s (length lent)) (word_in (receive_of 1 s)) lent
 
   -- ---- the writer
   -- the 600 upright symbols of an entry

@@ -1,9 +1,13 @@
 -- A record with nothing beside it: no unused bit or number there is wrong, so its fault is its own. Assumes nothing.
 use mathlib.Core.Path.{◌≡◌, refl, sym, ap, ◌∙◌}
-use mathlib.Core.Bool.{Bool, true, false}
+use mathlib.Core.Bool.{Bool, true, false, not}
 use Prim.Native.Nat.{ℕ}
 use borrow.Author.Tests.{eqb-true}
 use lib.Dec.{eqb}
+use Rattle.std.specs.Prelude.{Some, None}
+use Rattle.std.specs.Option.{is_some}
+use Rattle.std.proofs.lemmas.Bool.{false≢true, true≢false}
+use Rattle.fields.specs.Patterns.{unless_0}
 use Rattle.bits.specs.Lists.{pick, at_most}
 use Rattle.message.specs.declared.Record.{Record}
 use Rattle.message.specs.Numbers.{nothing}
@@ -27,3 +31,13 @@ unfolding fault_of
 fault_alone r =
     ap (λ (t : Bool). pick (eqb (record_fault r nothing) 0) (pick t 0 293) (record_fault r nothing)) (nothing_unused (used_by (layout_of r)))
     ∙ same (record_fault r nothing)
+
+-- no fault is told exactly where there is none
+pub told : (n : ℕ) (b : Bool) → is_some (unless_0 n) ≡ not b → b ≡ eqb n 0
+told n b e = go (eqb n 0) b e
+  where
+    go : (t b : Bool) → is_some (pick t None (Some n)) ≡ not b → b ≡ t
+    go true true g = refl
+    go true false g = absurd (false≢true g)
+    go false true g = absurd (true≢false g)
+    go false false g = refl

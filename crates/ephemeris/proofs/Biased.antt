@@ -2,7 +2,7 @@
 use mathlib.Core.Path.{◌≡◌, refl, sym, ap, subst, ◌∙◌}
 use mathlib.Core.Bool.{Bool, true, false, not, ◌&&◌}
 use Prim.Native.Nat.{ℕ, zero, suc, ◌+◌, ◌-◌, ◌*◌, ◌/◌, ◌%◌, ◌^◌, ◌<◌, zero-le}
-use native.Mathlib.Nat.{mul-mod_left, lt_irrefl, ne_of_lt, sub-zero}
+use native.Mathlib.Nat.{lt_irrefl, ne_of_lt, sub-zero}
 use native.Mathlib.Omega.{arith}
 use borrow.Author.Tests.{ne_eqb, le-leb, lt-leb, le-ltb}
 use lib.Arith.{lt→nleb}
@@ -14,11 +14,12 @@ use lib.Ieee.Bits.{cond_no, is_false}
 use Rattle.ephemeris.specs.Scales.{Near}
 use Rattle.ephemeris.proofs.Exact.{shift}
 
+-- k shifted by 52 places in 64 bits
 abbrev word : ℕ → ℕ
-word k = k * 4503599627370496
+word k = k * 4503599627370496 % 18446744073709551616
 
 word_hid : (k : ℕ) → word k % 2 ^ 52 ≡ 0
-word_hid k = mul-mod_left k (2 ^ 52)
+word_hid k = omega arith
 
 pub word_number : (k : ℕ) → T (not (nan_bits binary64 (word k)))
 unfolding nan_bits

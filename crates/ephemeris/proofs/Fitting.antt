@@ -5,6 +5,7 @@ use Prim.Native.Nat.{ℕ}
 use native.Mathlib.Omega.{arith}
 use borrow.Author.Tests.{eqb-true, eq-eqb}
 use lib.Dec.{eqb}
+use Rattle.std.proofs.lemmas.Bool.{false≢true}
 use Rattle.bits.specs.Lists.{pick}
 use Rattle.bits.proofs.Both.{both_holds}
 use Rattle.weektime.specs.Time.{towc_refused}
@@ -24,7 +25,7 @@ unfolding sound
 sound_only r e = go (towc_refused (towc_in r)) refl e
   where
     go : (t : Bool) → towc_refused (towc_in r) ≡ t → pick t false (eqb (record_fault r nothing) 0) ≡ true → Sound r
-    go true q f = absurd (let z : ◌≡◌ {A = ℕ} 0 1 = (cc) in omega arith)
+    go true q f = absurd (false≢true f)
     go false q f = let k = taken (towc_in r) q in record { early = omega (arith, k.0); late = omega (arith, k.1); held = eqb-true (record_fault r nothing) 0 f }
 
 sound_if : (r : Record) → Sound r → sound r ≡ true
@@ -48,6 +49,9 @@ fit_only a b e =
       sound_second = sound_only (case.Subframe2 b) l.1;
     }
 
+pub apart : {a : Subframe1} {b : Subframe2} → none ≡ halves a b → ⊥
+apart e = let z : ◌≡◌ {A = ℕ} 0 1 = (cc) in omega arith
+
 pub pair_if : (one two : Record) (a : Subframe1) (b : Subframe2) → Pair one two a b → paired? one two ≡ halves a b
 pair_if one two a b p =
     sym
@@ -62,20 +66,20 @@ pair_only (case.Subframe1 c) (case.Subframe2 d) a b e = go (fit c d) refl e
         let g : c ≡ a = (cc) in
         let h : d ≡ b = (cc) in
         rw (← g, ← h) (fit_only c d q)
-    go false q f = absurd (let z : ◌≡◌ {A = ℕ} 0 1 = (cc) in omega arith)
-pair_only (case.Subframe1 c) (case.Subframe1 d) a b e = absurd (let z : ◌≡◌ {A = ℕ} 0 1 = (cc) in omega arith)
-pair_only (case.Subframe1 c) (case.IonoGrid d) a b e = absurd (let z : ◌≡◌ {A = ℕ} 0 1 = (cc) in omega arith)
-pair_only (case.Subframe1 c) (case.Almanac d) a b e = absurd (let z : ◌≡◌ {A = ℕ} 0 1 = (cc) in omega arith)
-pair_only (case.Subframe1 c) (case.GpsTime d) a b e = absurd (let z : ◌≡◌ {A = ℕ} 0 1 = (cc) in omega arith)
-pair_only (case.Subframe1 c) (case.EarthIono d) a b e = absurd (let z : ◌≡◌ {A = ℕ} 0 1 = (cc) in omega arith)
-pair_only (case.Subframe1 c) (case.GnssTime d) a b e = absurd (let z : ◌≡◌ {A = ℕ} 0 1 = (cc) in omega arith)
-pair_only (case.Subframe1 c) (case.Null d) a b e = absurd (let z : ◌≡◌ {A = ℕ} 0 1 = (cc) in omega arith)
-pair_only (case.Subframe1 c) (case.Unread d) a b e = absurd (let z : ◌≡◌ {A = ℕ} 0 1 = (cc) in omega arith)
-pair_only (case.Subframe2 c) two a b e = absurd (let z : ◌≡◌ {A = ℕ} 0 1 = (cc) in omega arith)
-pair_only (case.IonoGrid c) two a b e = absurd (let z : ◌≡◌ {A = ℕ} 0 1 = (cc) in omega arith)
-pair_only (case.Almanac c) two a b e = absurd (let z : ◌≡◌ {A = ℕ} 0 1 = (cc) in omega arith)
-pair_only (case.GpsTime c) two a b e = absurd (let z : ◌≡◌ {A = ℕ} 0 1 = (cc) in omega arith)
-pair_only (case.EarthIono c) two a b e = absurd (let z : ◌≡◌ {A = ℕ} 0 1 = (cc) in omega arith)
-pair_only (case.GnssTime c) two a b e = absurd (let z : ◌≡◌ {A = ℕ} 0 1 = (cc) in omega arith)
-pair_only (case.Null c) two a b e = absurd (let z : ◌≡◌ {A = ℕ} 0 1 = (cc) in omega arith)
-pair_only (case.Unread c) two a b e = absurd (let z : ◌≡◌ {A = ℕ} 0 1 = (cc) in omega arith)
+    go false q f = absurd (apart f)
+pair_only (case.Subframe1 c) (case.Subframe1 d) a b e = absurd (apart e)
+pair_only (case.Subframe1 c) (case.IonoGrid d) a b e = absurd (apart e)
+pair_only (case.Subframe1 c) (case.Almanac d) a b e = absurd (apart e)
+pair_only (case.Subframe1 c) (case.GpsTime d) a b e = absurd (apart e)
+pair_only (case.Subframe1 c) (case.EarthIono d) a b e = absurd (apart e)
+pair_only (case.Subframe1 c) (case.GnssTime d) a b e = absurd (apart e)
+pair_only (case.Subframe1 c) (case.Null d) a b e = absurd (apart e)
+pair_only (case.Subframe1 c) (case.Unread d) a b e = absurd (apart e)
+pair_only (case.Subframe2 c) two a b e = absurd (apart e)
+pair_only (case.IonoGrid c) two a b e = absurd (apart e)
+pair_only (case.Almanac c) two a b e = absurd (apart e)
+pair_only (case.GpsTime c) two a b e = absurd (apart e)
+pair_only (case.EarthIono c) two a b e = absurd (apart e)
+pair_only (case.GnssTime c) two a b e = absurd (apart e)
+pair_only (case.Null c) two a b e = absurd (apart e)
+pair_only (case.Unread c) two a b e = absurd (apart e)

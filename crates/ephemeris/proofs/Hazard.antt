@@ -14,19 +14,18 @@ use Rattle.message.specs.declared.Subframe1.{Subframe1}
 use Rattle.message.specs.declared.Subframe2.{Subframe2}
 use Rattle.message.specs.declared.Record.TheVariants as case
 use Rattle.message.specs.Records.{record_fault, fault_of, to_body}
-use Rattle.ephemeris.specs.declared.Paired.{Paired}
-use Rattle.ephemeris.specs.Pairing.{sound, fit, pair_of, idle_in}
+use Rattle.ephemeris.specs.Pairing.{sound, fit, pair_of, paired_number, idle_in}
 use Rattle.ephemeris.proofs.Idling.{idle_exactly, idle_toc, idle_toe}
 use Rattle.ephemeris.proofs.Laws.{paired_exactly}
 
 -- every idle subframe 1 and idle subframe 2 whose TOWC is in range pass for a pair
 pub idle_halves_pair : (a : Subframe1) (b : Subframe2) → idle_in (case.Subframe1 a) ≡ true → idle_in (case.Subframe2 b) ≡ true
     → 1 ≤ a.head.towc.0 → a.head.towc.0 ≤ 50400 → 1 ≤ b.head.towc.0 → b.head.towc.0 ≤ 50400
-    → (pair_of (case.Subframe1 a) (case.Subframe2 b)).refusal ≡ 0
+    → paired_number (pair_of (case.Subframe1 a) (case.Subframe2 b)) ≡ 0
 idle_halves_pair a b d c p q u v =
     let i = (idle_exactly (case.Subframe1 a)).0 d in
     let j = (idle_exactly (case.Subframe2 b)).0 c in
-    ap (λ (r : Paired). r.refusal)
+    ap paired_number
     ((paired_exactly (case.Subframe1 a) (case.Subframe2 b)).1 a b
     (record {
       first = refl;
@@ -86,6 +85,6 @@ idle_second =
 pub idle_pairs :
     (idle_in (case.Subframe1 idle_first) ≡ true)
     × (idle_in (case.Subframe2 idle_second) ≡ true)
-    × ((pair_of (case.Subframe1 idle_first) (case.Subframe2 idle_second)).refusal ≡ 0)
+    × (paired_number (pair_of (case.Subframe1 idle_first) (case.Subframe2 idle_second)) ≡ 0)
 unfolding head_of idle_first idle_second idle_in pair_of fit sound towc_refused record_fault fault_of fault_in holds to_body body_of field_bits bits_of pattern_of fits alternates rows number at_most head subframe1 subframe2
 idle_pairs = (refl, refl, refl)

@@ -48,10 +48,10 @@ set_flag true e = refl
 set_flag false e = absurd (omega arith)
 
 -- ---- a record of the subframe whose ID is `id` and whose pattern begins at the bit `from`
-module _ (r : Record) (id from : ℕ) (held : record_fault r nothing ≡ 0) (early : get_or rows id no_row ≡ row id 1 from 262 false)
+module _ (r : Record) (id from : ℕ) (held : record_fault r nothing ≡ 0) (early : get_or rows id no_row ≡ row id true from 262 false)
     (named : number (part (to_body r nothing) 27 2) ≡ id) (flag : number (part (to_body r nothing) 25 1) ≡ pick (head_in r).alert 1 0) where
-  fitting : (pattern_of (to_body r nothing) ≡ true → Fitting (row id 1 from 262 false) (to_body r nothing))
-      × (Fitting (row id 1 from 262 false) (to_body r nothing) → pattern_of (to_body r nothing) ≡ true)
+  fitting : (pattern_of (to_body r nothing) ≡ true → Fitting (row id true from 262 false) (to_body r nothing))
+      × (Fitting (row id true from 262 false) (to_body r nothing) → pattern_of (to_body r nothing) ≡ true)
   fitting =
       subst (λ (w : Row). (pattern_of (to_body r nothing) ≡ true → Fitting w (to_body r nothing)) × (Fitting w (to_body r nothing) → pattern_of (to_body r nothing) ≡ true))
       (ap (λ (n : ℕ). get_or rows n no_row) named ∙ early)

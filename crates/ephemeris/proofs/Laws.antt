@@ -2,7 +2,6 @@
 use mathlib.Core.Path.{◌≡◌, refl, sym, ap, subst, ◌∙◌}
 use mathlib.Core.Bool.{true}
 use mathlib.Core.List.{List, map}
-use Prim.Native.Nat.{ℕ}
 use native.Mathlib.Omega.{arith}
 use lib.Dec.{T}
 use lib.IntN.{negsuc}
@@ -18,11 +17,12 @@ use Rattle.message.specs.declared.Record.{Record}
 use Rattle.message.specs.declared.Record.TheVariants as case
 use Rattle.message.specs.Numbers.{nothing}
 use Rattle.message.specs.Records.{layout_of, numbers_of, record_fault}
-use Rattle.ephemeris.specs.declared.Paired.{Paired}
+use Rattle.ephemeris.specs.declared.Ephemeris.{Ephemeris}
+use Rattle.std.specs.Prelude.{Option, Some, None}
 use Rattle.ephemeris.specs.Exactly.{times, exactly}
 use Rattle.ephemeris.specs.Meaning.{numbers_in, terms_in, terms_of, Each, Pair, Means, done, refused}
-use Rattle.ephemeris.specs.Pairing.{scale_at, ephemeris_of, no_ephemeris, Halves, halves, none, paired?, answer, pair_of}
-use Rattle.ephemeris.proofs.Fitting.{pair_if, pair_only}
+use Rattle.ephemeris.specs.Pairing.{scale_at, ephemeris_of, no_ephemeris, Halves, halves, none, paired?, answer, pair_of, paired_number, paired_ephemeris}
+use Rattle.ephemeris.proofs.Fitting.{apart, pair_if, pair_only}
 use Rattle.ephemeris.proofs.Numbers.{scaled, narrow?, Small, each_exact, each_one, small_append, small_terms, same_numbers}
 
 -- the ephemeris holds every field from bit 31 to bit 260 of both subframes except the ten reserved bits, in order, each times its own row's scale
@@ -36,25 +36,22 @@ unfolding scale_at head subframe1 exactly times odd count_trailing_zeros
 af0_ones = refl
 
 -- ---- when it is done
-apart : {a : Subframe1} {b : Subframe2} → none ≡ halves a b → ⊥
-apart e = let z : ◌≡◌ {A = ℕ} 0 1 = (cc) in omega arith
-
 module _ (one two : Record) where
   -- done exactly where the two are paired
-  pub paired_exactly : ((pair_of one two).refusal ≡ 0 → (a : Subframe1) × (b : Subframe2) × Pair one two a b)
-      × ((a : Subframe1) (b : Subframe2) → Pair one two a b → pair_of one two ≡ (record { refusal = 0; ephemeris = ephemeris_of a b }))
+  pub paired_exactly : (paired_number (pair_of one two) ≡ 0 → (a : Subframe1) × (b : Subframe2) × Pair one two a b)
+      × ((a : Subframe1) (b : Subframe2) → Pair one two a b → pair_of one two ≡ Some (ephemeris_of a b))
   unfolding pair_of
   paired_exactly = (go (paired? one two) refl, λ a b p. ap answer (pair_if one two a b p))
     where
-      go : (h : Halves) → paired? one two ≡ h → (answer h).refusal ≡ 0 → (a : Subframe1) × (b : Subframe2) × Pair one two a b
+      go : (h : Halves) → paired? one two ≡ h → paired_number (answer h) ≡ 0 → (a : Subframe1) × (b : Subframe2) × Pair one two a b
       go (halves a b) q e = (a, b, pair_only one two a b q)
       go none q e = absurd (omega arith)
 
-  pub refused_zeros : (pair_of one two).refusal ≡ 11 → (pair_of one two).ephemeris ≡ no_ephemeris
+  pub refused_zeros : paired_number (pair_of one two) ≡ 11 → paired_ephemeris (pair_of one two) ≡ no_ephemeris
   unfolding pair_of
   refused_zeros = go (paired? one two)
     where
-      go : (h : Halves) → (answer h).refusal ≡ 11 → (answer h).ephemeris ≡ no_ephemeris
+      go : (h : Halves) → paired_number (answer h) ≡ 11 → paired_ephemeris (answer h) ≡ no_ephemeris
       go (halves a b) e = absurd (omega arith)
       go none e = refl
 
@@ -82,8 +79,15 @@ pair_means one two = go (paired? one two) refl
     go (halves a b) q = let p = pair_only one two a b q in done a b p refl (each_of one two a b p)
     go none q = refused (λ a b p. apart (sym q ∙ pair_if one two a b p)) refl refl
 
+-- an answer is its number and its ephemeris
+same_answers : (r s : Option Ephemeris) → paired_number r ≡ paired_number s → paired_ephemeris r ≡ paired_ephemeris s → r ≡ s
+same_answers (Some n) (Some m) e f = ap Some f
+same_answers (Some n) None e f = absurd (omega (arith, e))
+same_answers None (Some m) e f = absurd (omega (arith, e))
+same_answers None None e f = refl
+
 -- two answers that mean it are the same, to the last bit
-pub pair_decides : (one two : Record) (r s : Paired) → Means one two r → Means one two s → r ≡ s
+pub pair_decides : (one two : Record) (r s : Option Ephemeris) → Means one two r → Means one two s → r ≡ s
 pair_decides one two r s (done a b p e f) (done c d q g h) =
     let h1 = p.first in
     let h2 = q.first in
@@ -91,8 +95,8 @@ pair_decides one two r s (done a b p e f) (done c d q g h) =
     let h4 = q.second in
     let x : a ≡ c = (cc) in
     let y : b ≡ d = (cc) in
-    let n = same_numbers r.ephemeris s.ephemeris (each_one _ _ (terms_of c d) (rw (x, y) at f) h) in
-    λ i. record { refusal = (e ∙ sym g) i; ephemeris = n i }
+    same_answers r s (e ∙ sym g) (same_numbers (paired_ephemeris r) (paired_ephemeris s) (each_one _ _ (terms_of c d) (rw (x, y) at f) h))
 pair_decides one two r s (done a b p e f) (refused q g h) = absurd (q a b p)
 pair_decides one two r s (refused p e f) (done c d q g h) = absurd (p c d q)
-pair_decides one two r s (refused p e f) (refused q g h) = λ i. record { refusal = (e ∙ sym g) i; ephemeris = same_numbers r.ephemeris s.ephemeris (f ∙ sym h) i }
+pair_decides one two r s (refused p e f) (refused q g h) =
+    same_answers r s (e ∙ sym g) (same_numbers (paired_ephemeris r) (paired_ephemeris s) (f ∙ sym h))

@@ -47,9 +47,9 @@ unfolding of_int exactly
 scaling (pos n) e h k = mul_power (round binary64 false n 1) false n e (round_whole binary64 false n (le_of_lt h)) ∙ round_times false n e h k
 scaling (negsuc n) e h k = mul_power (round binary64 true (suc n) 1) true (suc n) e (round_whole binary64 true (suc n) (le_of_lt h)) ∙ round_times true (suc n) e h k
 
--- the law, as the functions cite it: z' is z read back from its bits
-pub product : (z' z : ℤ) (p : Float) → z' ≡ z → nat_abs z < 2 ^ 53 → Scaled z p (mul binary64 (of_int binary64 z') p)
-product z' z p q h = record { exact = λ e k w. (λ i. mul binary64 (of_int binary64 (q i)) (w i)) ∙ scaling z e h k }
+-- the law, as `scaled` cites it
+pub product : (Raw : Float → Type 0) (x p : Float) (e : ℤ) → Near e → Raw x → p ≡ fin false 1 e → Scaled Raw e (mul binary64 x p)
+product Raw x p e k w q = record { exact = λ z h f. (λ i. mul binary64 (f x w i) (q i)) ∙ scaling z e h k }
 
 -- an i32 has at most 32 binary digits
 pub narrow : (z : ℤ) → SFits w32 z → nat_abs z < 2 ^ 53

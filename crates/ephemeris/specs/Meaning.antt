@@ -1,6 +1,6 @@
 -- What the answers of `pair` and `is_idle_pattern` mean, said plainly. `pair_means` of proofs/Laws: pair_of means `Means`, and `pair_decides`: no
 -- other answer does. `idle_exactly` of proofs/Idling: idle_in tells whether `Idle` holds. Assumes nothing.
-use Rattle.std.specs.Prelude.{◌≡◌, Bool, true, not, List, [], ◌∷◌, ◌++◌, ℕ, ◌+◌, ◌-◌, ◌%◌, ◌≤◌, T, eqb, leb, ℤ, pos, get_or, drop, replicate, Float}
+use Rattle.std.specs.Prelude.{◌≡◌, Bool, true, not, List, [], ◌∷◌, ◌++◌, ℕ, ◌+◌, ◌-◌, ◌%◌, ◌≤◌, T, eqb, leb, ℤ, pos, get_or, drop, replicate, Float, Option}
 use Rattle.std.specs.Float.Ieee as ieee
 use Rattle.std.specs.Float.{binary64}
 use Rattle.bits.specs.Lists.{pick, both, at}
@@ -13,9 +13,8 @@ use Rattle.message.specs.declared.Record.TheVariants as case
 use Rattle.message.specs.Numbers.{nothing}
 use Rattle.message.specs.Records.{layout_of, head_in, towc_in, numbers_of, record_fault, to_body}
 use Rattle.ephemeris.specs.declared.Ephemeris.{Ephemeris}
-use Rattle.ephemeris.specs.declared.Paired.{Paired}
 use Rattle.ephemeris.specs.Exactly.{Exactly}
-use Rattle.ephemeris.specs.Pairing.{plus_zero}
+use Rattle.ephemeris.specs.Pairing.{plus_zero, paired_number, paired_ephemeris}
 
 -- the numbers of an ephemeris, in order
 abbrev pub numbers_in : Ephemeris → List Float
@@ -84,9 +83,10 @@ pub record Pair (one two : Record) (a : Subframe1) (b : Subframe2) : Type 0 wher
   pub sound_first : Sound one
   pub sound_second : Sound two
 
-pub data Means (one two : Record) (r : Paired) : Type 0 where
-  done : (a : Subframe1) (b : Subframe2) → Pair one two a b → r.refusal ≡ 0 → Each (numbers_in r.ephemeris) (terms_of a b) → Means one two r
-  refused : ((a : Subframe1) (b : Subframe2) → Pair one two a b → ⊥) → r.refusal ≡ 11 → numbers_in r.ephemeris ≡ replicate 26 plus_zero → Means one two r
+-- what an answer means, by the paper's number and the ephemeris beside it
+pub data Means (one two : Record) (r : Option Ephemeris) : Type 0 where
+  done : (a : Subframe1) (b : Subframe2) → Pair one two a b → paired_number r ≡ 0 → Each (numbers_in (paired_ephemeris r)) (terms_of a b) → Means one two r
+  refused : ((a : Subframe1) (b : Subframe2) → Pair one two a b → ⊥) → paired_number r ≡ 11 → numbers_in (paired_ephemeris r) ≡ replicate 26 plus_zero → Means one two r
 
 -- ---- a record with the idle pattern, from the bit `from` on
 pub record IdleFrom (from : ℕ) (r : Record) : Type 0 where

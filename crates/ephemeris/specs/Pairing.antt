@@ -1,5 +1,5 @@
 -- The pair of subframes 1 and 2 (01, "The pair and the recording"), and which of them hold 003's idle pattern. Assumes nothing.
-use Rattle.std.specs.Prelude.{Bool, false, ℕ, eqb, ltb, ℤ, pos, get_or, Float}
+use Rattle.std.specs.Prelude.{Bool, false, ℕ, eqb, ltb, ℤ, pos, get_or, Float, Option, Some, None}
 use Rattle.std.specs.Float.{fin}
 use Rattle.bits.specs.Lists.{pick, both}
 use Rattle.weektime.specs.Time.{towc_refused}
@@ -14,7 +14,6 @@ use Rattle.message.specs.declared.Record.TheVariants as case
 use Rattle.message.specs.Numbers.{nothing}
 use Rattle.message.specs.Records.{towc_in, subframe_of, record_fault, fault_of, to_body}
 use Rattle.ephemeris.specs.declared.Ephemeris.{Ephemeris}
-use Rattle.ephemeris.specs.declared.Paired.{Paired}
 use Rattle.ephemeris.specs.Exactly.{exactly}
 
 -- ---- the numbers
@@ -133,13 +132,21 @@ paired? (case.GnssTime c) second = none
 paired? (case.Null c) second = none
 paired? (case.Unread c) second = none
 
--- the paper's number and the ephemeris
-abbrev pub answer : Halves → Paired
-answer (halves a b) = record { refusal = 0; ephemeris = ephemeris_of a b }
-answer none = record { refusal = 11; ephemeris = no_ephemeris }
+abbrev pub answer : Halves → Option Ephemeris
+answer (halves a b) = Some (ephemeris_of a b)
+answer none = None
 
-unfoldable pub pair_of : Record → Record → Paired
+unfoldable pub pair_of : Record → Record → Option Ephemeris
 pair_of first second = answer (paired? first second)
+
+-- the paper's number, and the ephemeris beside it
+abbrev pub paired_number : Option Ephemeris → ℕ
+paired_number (Some n) = 0
+paired_number None = 11
+
+abbrev pub paired_ephemeris : Option Ephemeris → Ephemeris
+paired_ephemeris (Some n) = n
+paired_ephemeris None = no_ephemeris
 
 -- ---- the idle pattern
 -- whether a record of subframe 1 or 2, each field within its width, has the pattern of its row of 5.10.3 (crate idle) in its body.

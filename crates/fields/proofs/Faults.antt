@@ -4,13 +4,16 @@ use mathlib.Core.Path.{◌≡◌, refl, sym, ◌∙◌}
 use mathlib.Core.List.{List, [], ◌∷◌}
 use Prim.Native.Nat.{ℕ, zero, suc, ◌+◌, ◌<◌}
 use native.Mathlib.Omega.{arith}
+use borrow.Author.Tests.{eqb-true, eqb-false, ne_eqb}
+use lib.Dec.{eqb}
 use lib.IntN.{ℤ, pos}
 use lib.ListN.{length, get_or, drop}
+use Rattle.std.specs.Prelude.{None, Some}
 use Rattle.bits.specs.Lists.{pick}
 use Rattle.fields.specs.declared.Row.{Row}
 use Rattle.fields.specs.declared.Layout.{Layout}
 use Rattle.fields.specs.Fields.{holds, fault_in}
-use Rattle.fields.specs.Patterns.{no_row}
+use Rattle.fields.specs.Patterns.{no_row, unless_0}
 use Rattle.fields.specs.Table.{first, width, rows_of}
 use Rattle.fields.proofs.Rules.{Tiles, tiled, tile_at}
 
@@ -82,3 +85,32 @@ faults at (r ∷ rs) zs t = go (HoldsAt (r ∷ rs) zs 0) refl (faults (at + widt
 
 pub fault_first : (l : Layout) (zs : List ℤ) → Fault (rows_of l) zs (fault_in (rows_of l) zs)
 fault_first l zs = faults 0 (rows_of l) zs (tiled l)
+
+-- ---- what the check gives: no fault, or its first bit
+pub unless_none : (n : ℕ) → unless_0 n ≡ None → n ≡ 0
+unless_none n e = go (eqb n 0) refl e
+  where
+    go : (b : Bool) → eqb n 0 ≡ b → pick b None (Some n) ≡ None → n ≡ 0
+    go true t e = eqb-true n 0 t
+    go false t e = (cc)
+
+pub unless_some : (n b : ℕ) → unless_0 n ≡ Some b → n ≡ b
+unless_some n b e = go (eqb n 0) e
+  where
+    go : (t : Bool) → pick t None (Some n) ≡ Some b → n ≡ b
+    go true e = (cc)
+    go false e = (cc)
+
+pub unless_some_above : (n b : ℕ) → unless_0 n ≡ Some b → 0 < b
+unless_some_above n b e = go (eqb n 0) refl e
+  where
+    go : (t : Bool) → eqb n 0 ≡ t → pick t None (Some n) ≡ Some b → 0 < b
+    go true t e = (cc)
+    go false t e = let k : n ≡ b = (cc) in omega (arith, eqb-false n 0 t)
+
+-- the other way
+pub unless_all : (n : ℕ) → n ≡ 0 → unless_0 n ≡ None
+unless_all n e = rw e
+
+pub unless_above : (n : ℕ) → 0 < n → unless_0 n ≡ Some n
+unless_above n h = rw (ne_eqb n 0 (omega arith))

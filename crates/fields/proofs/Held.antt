@@ -42,7 +42,7 @@ holds_held r z m h = go (signed r) z h
     go : (s : Bool) (z : ℤ) → pick s (ltb (mag z) (2 ^ (width r - 1))) (in_unsigned (width r) z) ≡ true → Carried s z
     go true z e = omega (arith, ltb-true (mag z) (2 ^ (width r - 1)) e, half_small (width r) m)
     go false (pos n) e = omega (arith, ltb-true n (2 ^ width r) e, whole_small (width r) m)
-    go false (negsuc n) e = let z : ◌≡◌ {A = ℕ} 0 1 = (cc) in omega arith
+    go false (negsuc n) e = absurd (cc)
 
 fit_held : (at : ℕ) (rs : List Row) (zs : List ℤ) → Tiles at rs → AllHold rs zs → AllHeld rs zs
 fit_held at [] zs t h = tt

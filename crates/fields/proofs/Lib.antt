@@ -2,7 +2,6 @@ pub mod Bodies
 pub mod Faults
 pub mod Halves
 pub mod Held
-pub mod Laying
 pub mod Putting
 pub mod Rules
 pub mod Signs

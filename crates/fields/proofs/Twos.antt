@@ -55,7 +55,7 @@ twos_bits w (negsuc n) p h =
 unsigned_bits : (w : ℕ) (z : ℤ) → in_unsigned w z ≡ true → pos (number (field_bits w z)) ≡ z
 unfolding field_bits
 unsigned_bits w (pos n) e = ap pos (number_bits w n ∙ mod-eq_of_lt (ltb-true n (2 ^ w) e))
-unsigned_bits w (negsuc n) e = absurd (let z : ◌≡◌ {A = ℕ} 0 1 = (cc) in omega arith)
+unsigned_bits w (negsuc n) e = (cc)
 
 pub field_round : (r : Row) (z : ℤ) → 0 < width r → holds r z ≡ true → value_of (signed r) (width r) (number (field_bits (width r) z)) ≡ z
 unfolding holds

@@ -1,31 +1,18 @@
--- How the code carries a field's number: as a pattern of 64 bits, of a negative number its two's complement; and how it carries the rows.
+-- How the code carries a field's number: as a pattern of 64 bits, of a negative number its two's complement.
 -- Only the calls of this crate, `message::table_numbers` and `numbers_after` of crate navic_c cite it; `packed_body` and `pattern_fault_lem` (Held) and
 -- `seen` (crate navic_c) tie it to the numbers, of which every other contract speaks. Assumes nothing.
-use Rattle.std.specs.Prelude.{Bool, true, false, List, [], ◌∷◌, ◌++◌, map, ℕ, ◌-◌, ◌^◌, ltb, leb, ℤ, pos, length, get_or, drop, replicate}
+use Rattle.std.specs.Prelude.{Bool, true, false, Option, None, Some, List, [], ◌∷◌, ◌++◌, map, ℕ, ◌-◌, ◌^◌, eqb, ltb, leb, ℤ, pos, length, get_or, drop, replicate}
 use Rattle.std.specs.Int.{w64}
 use Rattle.std.proofs.Common.{of_z}
 use Rattle.bits.specs.Lists.{pick}
 use Rattle.bits.specs.Numbers.{bits_of}
 use Rattle.fields.specs.declared.Row.{Row}
-use Rattle.fields.specs.Table.{row, first, width, signed, head, message_id, prn, subframe1, subframe2, almanac, time_offsets, earth_iono}
+use Rattle.fields.specs.Table.{row, first, width, signed}
 
 -- ---- rows
+-- a row of no bits
 abbrev pub no_row : Row
 no_row = row 0 0 false (pos 0)
-
--- a layout's rows, and rows of no bits up to 42
-unfoldable pub padded : List Row → List Row
-padded rs = rs ++ replicate (42 - length rs) no_row
-
--- the table as the code stores it, each row once
-unfoldable pub stored_head : List Row
-stored_head = head ++ (message_id ∷ prn ∷ [])
-
-unfoldable pub stored_subframes : List Row
-stored_subframes = subframe1 ++ subframe2
-
-unfoldable pub stored_messages : List Row
-stored_messages = almanac ++ (time_offsets ++ earth_iono)
 
 -- ---- numbers
 abbrev pub pattern : ℤ → ℕ
@@ -51,3 +38,7 @@ fits r n = pick (signed r) (in_signed (width r) n) (ltb n (2 ^ width r))
 unfoldable pub pattern_fault : List Row → List ℕ → ℕ
 pattern_fault [] ns = 0
 pattern_fault (r ∷ rs) ns = pick (fits r (get_or ns 0 0)) (pattern_fault rs (drop 1 ns)) (first r)
+
+-- no fault, or its first bit
+abbrev pub unless_0 : ℕ → Option ℕ
+unless_0 n = pick (eqb n 0) None (Some n)

@@ -1,22 +1,21 @@
 // The one table of fields, and reading and writing by it.
 #![tactic(auto)]
 
-ghost use Rattle.std.specs.Prelude.{◌≡◌, ◌+◌, ◌-◌, ◌%◌, ◌^◌, ◌<◌, ◌≤◌, length, drop};
-ghost use Rattle.std.proofs.Math.Seq.{paste};
+ghost use Rattle.std.specs.Prelude.{◌≡◌, ◌+◌, ◌-◌, ◌%◌, ◌^◌, ◌<◌, ◌≤◌, length};
 ghost use Rattle.std.specs.Int.{w32, w64};
 ghost use Rattle.std.proofs.Common.{to_z, of_z};
-ghost use Rattle.bits.specs.Lists.{part, splice};
 ghost use Rattle.bits.specs.Numbers.{number, bits_of};
-ghost use Rattle.fields.specs.Table.{rows_of, iono_grid, data_bytes};
+ghost use Rattle.fields.specs.Table.{first, width, rows_of};
 ghost use Rattle.fields.specs.Fields.{twos, value_at, values};
-ghost use Rattle.fields.specs.Patterns.{padded, stored_head, stored_subframes, stored_messages, pattern, patterns, packed, fits, pattern_fault};
+ghost use Rattle.fields.specs.Patterns.{pattern, patterns, packed, fits, pattern_fault, unless_0};
 
-// A field: its first bit, from 1, its width, whether it is two's complement, and the exponent of its scale.
+// A field: its first bit, from 1, its width, whether it is two's complement, and the exponent of its scale. It is a tuple, since the table's rows
+// read best as columns. The bounds of a width are in the contracts and not in the type: `no_row` of specs, past a layout's rows, has width 0.
 #[derive(Clone, Copy)]
 pub struct Row(pub usize, pub usize, pub bool, pub i32);
 
 // Which rows a body has.
-#[derive(Clone, Copy)]
+#[derive(Clone, Copy, Debug, PartialEq, Eq)]
 pub enum Layout {
     Subframe1,
     Subframe2,
@@ -27,20 +26,34 @@ pub enum Layout {
     Data,
 }
 
-// Bits 1 to 30 of every subframe, and the message ID and the PRN of a message.
-const HEAD: [Row; 8] = [
-    Row(1, 8, false, 0),
-    Row(9, 17, false, 0),
-    Row(26, 1, false, 0),
-    Row(27, 1, false, 0),
-    Row(28, 2, false, 0),
-    Row(30, 1, false, 0),
-    Row(31, 6, false, 0),
-    Row(257, 6, false, 0),
-];
+// The rows of a subframe: bits 1 to 30, which every subframe has, and its own.
+macro_rules! subframe {
+    ($($row:expr),* $(,)?) => {
+        [
+            Row(1, 8, false, 0),
+            Row(9, 17, false, 0),
+            Row(26, 1, false, 0),
+            Row(27, 1, false, 0),
+            Row(28, 2, false, 0),
+            Row(30, 1, false, 0),
+            $($row),*
+        ]
+    };
+}
 
-// Subframe 1 (20 rows) and subframe 2 (9).
-const SUBFRAMES: [Row; 29] = [
+// Those of a message: the message ID and the PRN stand around its own.
+macro_rules! message {
+    ($($row:expr),* $(,)?) => {
+        subframe![
+            Row(31, 6, false, 0),
+            $($row,)*
+            Row(257, 6, false, 0),
+        ]
+    };
+}
+
+// Subframe 1.
+const SUBFRAME1: &[Row] = &subframe![
     Row(31, 10, false, 0),
     Row(41, 22, true, -31),
     Row(63, 16, true, -43),
@@ -61,6 +74,10 @@ const SUBFRAMES: [Row; 29] = [
     Row(232, 15, true, -4),
     Row(247, 14, true, -43),
     Row(261, 2, false, 0),
+];
+
+// Subframe 2.
+const SUBFRAME2: &[Row] = &subframe![
     Row(31, 32, true, -31),
     Row(63, 16, false, 4),
     Row(79, 32, false, -33),
@@ -73,7 +90,7 @@ const SUBFRAMES: [Row; 29] = [
 ];
 
 // Message type 5.
-const GRID: [Row; 34] = [
+const IONO_GRID: &[Row] = &message![
     Row(37, 10, false, 0),
     Row(47, 4, false, 0),
     Row(51, 4, false, 0),
@@ -110,8 +127,8 @@ const GRID: [Row; 34] = [
     Row(249, 8, false, 0),
 ];
 
-// Message types 7 (14 rows), 9 and 26 (16), and 11 (16).
-const MESSAGES: [Row; 46] = [
+// Message type 7.
+const ALMANAC: &[Row] = &message![
     Row(37, 10, false, 0),
     Row(47, 16, false, -21),
     Row(63, 16, false, 4),
@@ -126,6 +143,10 @@ const MESSAGES: [Row; 46] = [
     Row(237, 6, false, 0),
     Row(243, 8, true, -31),
     Row(251, 6, false, 0),
+];
+
+// Message types 9 and 26.
+const TIME_OFFSETS: &[Row] = &message![
     Row(37, 16, true, -35),
     Row(53, 13, true, -51),
     Row(66, 7, true, -68),
@@ -142,6 +163,10 @@ const MESSAGES: [Row; 46] = [
     Row(181, 10, false, 0),
     Row(191, 3, false, 0),
     Row(194, 63, false, 0),
+];
+
+// Message type 11.
+const EARTH_IONO: &[Row] = &message![
     Row(37, 16, false, 4),
     Row(53, 21, true, -20),
     Row(74, 15, true, -21),
@@ -161,7 +186,7 @@ const MESSAGES: [Row; 46] = [
 ];
 
 // A message's 220 bits by the byte.
-const DATA: [Row; 28] = [
+const DATA: &[Row] = &message![
     Row(37, 8, false, 0),
     Row(45, 8, false, 0),
     Row(53, 8, false, 0),
@@ -192,158 +217,38 @@ const DATA: [Row; 28] = [
     Row(253, 4, false, 0),
 ];
 
-// The consts, each named in one place: a const is dear to check where it is indexed.
-fn head_table() -> [Row; 8]
-    ensures { result ≡ stored_head }
+// The rows of a layout, each const named here alone.
+#[tactic(auto, unfolding(crate::specs::Table::head, crate::specs::Table::message_id, crate::specs::Table::prn, crate::specs::Table::subframe1, crate::specs::Table::subframe2, crate::specs::Table::iono_grid, crate::specs::Table::almanac, crate::specs::Table::time_offsets, crate::specs::Table::earth_iono, crate::specs::Table::data_bytes))]
+pub fn table(layout: Layout) -> &'static [Row]
+    ensures { result.now ≡ rows_of layout }
 {
-    HEAD
-}
-
-fn subframe_table() -> [Row; 29]
-    ensures { result ≡ stored_subframes }
-{
-    SUBFRAMES
-}
-
-fn grid_table() -> [Row; 34]
-    ensures { result ≡ iono_grid }
-{
-    GRID
-}
-
-fn message_table() -> [Row; 46]
-    ensures { result ≡ stored_messages }
-{
-    MESSAGES
-}
-
-fn data_table() -> [Row; 28]
-    ensures { result ≡ data_bytes }
-{
-    DATA
-}
-
-// `rows` with `n` rows of a const, from its row `from` on, put in from the place `at` on: one function for each const.
-fn head_rows(rows: [Row; 42], at: usize, from: usize, n: usize) -> [Row; 42]
-    requires { (at + n < 43) × (from + n < 9) × (length rows ≡ 42) }
-    ensures { result ≡ paste rows at (drop from stored_head) n }
-{
-    let table = head_table();
-    let mut rows = rows;
-    let mut k = 0;
-    while k < n {
-        rows[at + k] = table[from + k];
-        k += 1;
+    match layout {
+        Layout::Subframe1 => SUBFRAME1,
+        Layout::Subframe2 => SUBFRAME2,
+        Layout::IonoGrid => IONO_GRID,
+        Layout::Almanac => ALMANAC,
+        Layout::TimeOffsets => TIME_OFFSETS,
+        Layout::EarthIono => EARTH_IONO,
+        Layout::Data => DATA,
     }
-    rows
-}
-
-fn subframe_rows(rows: [Row; 42], at: usize, from: usize, n: usize) -> [Row; 42]
-    requires { (at + n < 43) × (from + n < 30) × (length rows ≡ 42) }
-    ensures { result ≡ paste rows at (drop from stored_subframes) n }
-{
-    let table = subframe_table();
-    let mut rows = rows;
-    let mut k = 0;
-    while k < n {
-        rows[at + k] = table[from + k];
-        k += 1;
-    }
-    rows
-}
-
-fn grid_rows(rows: [Row; 42], at: usize, from: usize, n: usize) -> [Row; 42]
-    requires { (at + n < 43) × (from + n < 35) × (length rows ≡ 42) }
-    ensures { result ≡ paste rows at (drop from iono_grid) n }
-{
-    let table = grid_table();
-    let mut rows = rows;
-    let mut k = 0;
-    while k < n {
-        rows[at + k] = table[from + k];
-        k += 1;
-    }
-    rows
-}
-
-fn message_rows(rows: [Row; 42], at: usize, from: usize, n: usize) -> [Row; 42]
-    requires { (at + n < 43) × (from + n < 47) × (length rows ≡ 42) }
-    ensures { result ≡ paste rows at (drop from stored_messages) n }
-{
-    let table = message_table();
-    let mut rows = rows;
-    let mut k = 0;
-    while k < n {
-        rows[at + k] = table[from + k];
-        k += 1;
-    }
-    rows
-}
-
-fn data_rows(rows: [Row; 42], at: usize, from: usize, n: usize) -> [Row; 42]
-    requires { (at + n < 43) × (from + n < 29) × (length rows ≡ 42) }
-    ensures { result ≡ paste rows at (drop from data_bytes) n }
-{
-    let table = data_table();
-    let mut rows = rows;
-    let mut k = 0;
-    while k < n {
-        rows[at + k] = table[from + k];
-        k += 1;
-    }
-    rows
 }
 
 // How many rows a layout has.
 pub fn count(layout: Layout) -> usize
     ensures { result ≡ length (rows_of layout) }
 {
-    match layout {
-        Layout::Subframe1 => 26,
-        Layout::Subframe2 => 15,
-        Layout::IonoGrid => 42,
-        Layout::Almanac => 22,
-        Layout::TimeOffsets => 24,
-        Layout::EarthIono => 24,
-        Layout::Data => 36,
-    }
+    table(layout).len()
 }
 
-// A layout's rows, and rows of no bits behind them.
-pub fn rows(layout: Layout) -> [Row; 42]
-    ensures { result ≡ padded (rows_of layout) }
+// The number that a field's bits spell, the first the most significant; a byte counts by its lowest bit.
+#[tactic(auto, using(bits::proofs::Numbers::number_next, bits::proofs::Numbers::number_few), unfolding(bits::specs::Numbers::number))]
+fn field(bits: &[u8]) -> u64
+    requires { length bits.now ≤ 63 }
+    ensures { result ≡ number bits.now }
 {
-    let none: [Row; 42] = [Row(0, 0, false, 0); 42];
-    // A subframe's own rows go over the message ID's.
-    let head = head_rows(none, 0, 0, 7);
-    match layout {
-        Layout::Subframe1 => subframe_rows(head, 6, 0, 20),
-        Layout::Subframe2 => subframe_rows(head, 6, 20, 9),
-        Layout::IonoGrid => head_rows(grid_rows(head, 7, 0, 34), 41, 7, 1),
-        Layout::Almanac => head_rows(message_rows(head, 7, 0, 14), 21, 7, 1),
-        Layout::TimeOffsets => head_rows(message_rows(head, 7, 14, 16), 23, 7, 1),
-        Layout::EarthIono => head_rows(message_rows(head, 7, 30, 16), 23, 7, 1),
-        Layout::Data => head_rows(data_rows(head, 7, 0, 28), 35, 7, 1),
-    }
-}
-
-// The lowest bit of a byte.
-fn bit(x: u8) -> u64
-    ensures { result ≡ x % 2 }
-{
-    (x % 2) as u64
-}
-
-// The number that `width` bits spell, the first after `at` others.
-fn field(bits: &[u8], at: usize, width: usize) -> u64
-    requires { (at + width ≤ length bits.now) × (width ≤ 63) }
-    ensures { result ≡ number (part bits.now at width) }
-{
-    let mut n: u64 = 0;
-    let mut k: usize = 0;
-    while k < width {
-        n = n * 2 + bit(bits[at + k]);
-        k += 1;
+    let mut n = 0;
+    for bit in bits {
+        n = n * 2 + u64::from(*bit % 2);
     }
     n
 }
@@ -358,63 +263,42 @@ fn extend(n: u64, width: usize) -> u64
     if n < half {
         n
     } else {
-        n + (18446744073709551615 - (half - 1) - half)
+        n.wrapping_sub(2 * half)
     }
 }
 
 // The pattern of a field's number.
+#[tactic(auto, using(bits::proofs::Numbers::number_lt), unfolding(crate::specs::Fields::value_at))]
 fn value(body: &[u8], row: Row) -> u64
-    requires { (0 < row.0) × (row.0 - 1 + row.1 ≤ length body.now) × (0 < row.1) × (row.1 ≤ 63) }
+    requires { (0 < first row) × (first row - 1 + width row ≤ length body.now) × (0 < width row) × (width row ≤ 63) }
     ensures { result ≡ pattern (value_at body.now row) }
 {
-    let at = row.0 - 1;
-    let width = row.1;
-    let n = field(body, at, width);
-    if row.2 { extend(n, width) } else { n }
-}
-
-fn read_body(body: &[u8], layout: Layout) -> [u64; 42]
-    requires { length body.now ≡ 262 }
-    ensures { result ≡ patterns (values (rows_of layout) body.now) }
-{
-    let rows = rows(layout);
-    let n = count(layout);
-    let mut numbers: [u64; 42] = [0; 42];
-    let mut i = 0;
-    while i < n {
-        let row = rows[i];
-        let number = value(body, row);
-        numbers[i] = number;
-        i += 1;
-    }
-    numbers
+    let Row(first, width, is_signed, _) = row;
+    let at = first - 1;
+    let n = field(&body[at..at + width]);
+    if is_signed { extend(n, width) } else { n }
 }
 
 // The numbers of a body's fields, as patterns; a byte counts by its lowest bit.
 pub fn read(body: &[u8; 262], layout: Layout) -> [u64; 42]
     ensures { result ≡ patterns (values (rows_of layout) body.now) }
 {
-    read_body(body, layout)
+    let mut numbers = [0; 42];
+    for (i, row) in table(layout).iter().enumerate() {
+        numbers[i] = value(body, *row);
+    }
+    numbers
 }
 
-// The lowest bit of a number.
-fn lowest(n: u64) -> u8
-    ensures { result ≡ n % 2 }
+// The lowest bits of `n`, as many as there are places.
+fn put(bits: &mut [u8], n: u64)
+    ensures { bits.new ≡ bits_of (length bits.old) n }
 {
-    (n % 2) as u8
-}
-
-// The `width` lowest bits of `n`, put after the first `at` bits.
-fn put(bits: &mut [u8], at: usize, width: usize, n: u64)
-    requires { at + width ≤ length bits.old }
-    ensures { bits.new ≡ splice bits.old at (bits_of width n) }
-{
-    let mut left: u64 = n;
-    let mut k: usize = width;
-    while 0 < k {
-        k -= 1;
-        bits[at + k] = lowest(left);
-        left = left / 2;
+    let mut left = n;
+    // By the index: after `iter_mut().rev()` a proof knows no element.
+    for k in (0..bits.len()).rev() {
+        bits[k] = (left % 2) as u8;
+        left /= 2;
     }
 }
 
@@ -422,78 +306,53 @@ fn put(bits: &mut [u8], at: usize, width: usize, n: u64)
 pub fn write(layout: Layout, numbers: [u64; 42]) -> [u8; 262]
     ensures { result ≡ packed (rows_of layout) numbers }
 {
-    let rows = rows(layout);
-    let n = count(layout);
-    let mut body: [u8; 262] = [0; 262];
-    let mut i = 0;
-    while i < n {
-        let row = rows[i];
-        let at = row.0 - 1;
-        let width = row.1;
-        let number = numbers[i];
-        put(&mut body, at, width, number);
-        i += 1;
+    let mut body = [0; 262];
+    for (row, number) in table(layout).iter().zip(&numbers) {
+        let Row(first, width, _, _) = *row;
+        let at = first - 1;
+        put(&mut body[at..at + width], *number);
     }
     body
 }
 
 // Whether a field holds the number of a pattern.
+#[tactic(auto, using(crate::proofs::Halves::half_shifted, crate::proofs::Halves::half_small, crate::proofs::Halves::shifted), unfolding(crate::specs::Patterns::fits))]
 fn holds(row: Row, n: u64) -> bool
-    requires { (0 < row.1) × (row.1 ≤ 63) }
+    requires { (0 < width row) × (width row ≤ 63) }
     ensures { result ≡ fits row n }
 {
-    let width = row.1;
-    if row.2 {
-        let bound: u64 = 1 << (width - 1);
-        if n < bound {
-            return true;
-        }
-        let least = 18446744073709551615 - (bound - 1);
-        least <= n
+    let Row(_, width, is_signed, _) = row;
+    if is_signed {
+        let half: u64 = 1 << (width - 1);
+        n < half || half.wrapping_neg() <= n
     } else {
-        let end: u64 = 1 << width;
-        n < end
+        n < 1 << width
     }
 }
 
-// The first bit of the first field that does not hold its number, and 0 where all do.
-pub fn fault(layout: Layout, numbers: [u64; 42]) -> usize
-    ensures { result ≡ pattern_fault (rows_of layout) numbers }
+// The first bit of the first field that does not hold its number, if there is one.
+pub fn fault(layout: Layout, numbers: [u64; 42]) -> Option<usize>
+    ensures { result ≡ unless_0 (pattern_fault (rows_of layout) numbers) }
 {
-    let rows = rows(layout);
-    let n = count(layout);
-    let mut i = 0;
-    while i < n {
-        let row = rows[i];
-        let number = numbers[i];
-        if holds(row, number) {
-            i += 1;
-        } else {
-            return row.0;
+    // A loop: `find`'s closure would have to repeat what `holds` requires and ensures, so it is no plainer.
+    for (row, number) in table(layout).iter().zip(&numbers) {
+        if !holds(*row, *number) {
+            return Some(row.0);
         }
     }
-    0
+    None
 }
 
 // The number of a pattern whose field has at most 32 bits.
 pub fn signed(p: u64) -> i32
     ensures { result ≡ to_z w32 (p % 2 ^ 32) }
 {
-    let n = p % 4294967296;
-    if n < 2147483648 {
-        n as i32
-    } else {
-        -1 - ((4294967295 - n) as i32)
-    }
+    ((p % (1 << 32)) as u32).cast_signed()
 }
 
 // The pattern of a number.
 pub fn pattern(x: i32) -> u64
     ensures { result ≡ of_z w64 x }
 {
-    if x < 0 {
-        18446744073709551615 - ((-1 - x) as u64)
-    } else {
-        x as u64
-    }
+    i64::from(x).cast_unsigned()
 }

@@ -1,34 +1,37 @@
--- The sync rule: what sixteen symbols say by the number that disagree with EB90, and what the loop over them knows on its way.
+-- The sync rule: what sixteen symbols say by the number that disagree with EB90, and what the chains over them compute.
 -- Assumes nothing.
 use mathlib.Core.Path.{◌≡◌, refl, sym, ap, ap₂, ◌∙◌}
+use mathlib.Core.Bool.{Bool, true, false}
 use mathlib.Core.List.{List, [], ◌∷◌, ◌++◌, map}
 use mathlib.Core.Logic.{◌⊎◌, inl, inr}
 use Prim.Native.Nat.{ℕ, ◌+◌, ◌-◌, ◌≤◌, ◌<◌}
-use native.Mathlib.Numerals.{add-one}
 use native.Mathlib.Omega.{arith}
-use borrow.Author.Count.{below_more}
 use borrow.Author.Tests.{le-leb, lt-leb, eq-eqb, ne_eqb}
-use lib.ListN.{length, take, drop, set}
-use Rattle.bits.specs.Lists.{at, part, AtMost, at_most, Bits, unlike, differences}
-use Rattle.bits.proofs.Lists.{at_most_all, at_most_true, at_most_false, map_at, map_long}
-use Rattle.bits.proofs.Parts.{part_long, part_short, part_at}
-use Rattle.bits.proofs.Sum.{sum, sum_same, differences_sum}
-use Rattle.bits.proofs.Test.{bit_cases, two_bits}
-use Rattle.framing.specs.declared.Polarity.TheVariants.{Upright, TurnedOver, Missing}
+use lib.ListN.{length, take, drop, set, length-drop}
+use lib.Seq.{take_all}
+use Rattle.std.specs.Prelude.{Some, None, not, cond, max, fold, count_by, eqb, leb}
+use Rattle.std.specs.List.{zip, slice_range}
+use Rattle.std.proofs.lemmas.Bool.Decides.{nat_tests}
+use Rattle.bits.specs.Lists.{at, both, pick, part, AtMost, at_most, Bits, unlike, differences}
+use Rattle.bits.proofs.Both.{both_false}
+use Rattle.bits.proofs.Lists.{at_most_true, at_most_false}
+use Rattle.bits.proofs.Parts.{part_short}
+use Rattle.bits.proofs.Test.{bit_cases, two_bits, same_test}
+use Rattle.framing.specs.declared.Polarity.TheVariants.{Upright, TurnedOver}
 use Rattle.framing.specs.Frame.{turned_levels}
 use Rattle.framing.specs.Sync.{eb90, bit_at, disagreeing, judged, sync_of}
 use Rattle.framing.proofs.Subframe.{eb90_long, eb90_bits, turned_long, turned_at_most}
 
 -- ---- the number of disagreeing symbols
-pub judged_upright : (d : ℕ) → d ≤ 2 → judged d ≡ Upright
+pub judged_upright : (d : ℕ) → d ≤ 2 → judged d ≡ Some Upright
 unfolding judged
 judged_upright d h = rw (le-leb d 2 h) refl
 
-pub judged_turned : (d : ℕ) → 14 ≤ d → judged d ≡ TurnedOver
+pub judged_turned : (d : ℕ) → 14 ≤ d → judged d ≡ Some TurnedOver
 unfolding judged
 judged_turned d h = rw (lt-leb d 2 (omega arith), le-leb 14 d h) refl
 
-pub judged_missing : (d : ℕ) → 2 < d → d < 14 → judged d ≡ Missing
+pub judged_missing : (d : ℕ) → 2 < d → d < 14 → judged d ≡ None
 unfolding judged
 judged_missing d h k = rw (lt-leb d 2 h, lt-leb 14 d k) refl
 
@@ -38,54 +41,65 @@ module _ (p : ℕ) (s : List ℕ) where
   unfolding sync_of
   sync_held e h = rw (eq-eqb (length s) 16 e, at_most_true p s h) refl
 
-  pub sync_short : length s < 16 → sync_of p s ≡ Missing
+  pub sync_short : length s < 16 → sync_of p s ≡ None
   unfolding sync_of
   sync_short h = rw (ne_eqb (length s) 16 (λ e. omega arith)) refl
 
-  pub sync_above : length s ≡ 16 → (k : ℕ) → k < 16 → p < at s k → sync_of p s ≡ Missing
+  pub sync_unclean : at_most p s ≡ false → sync_of p s ≡ None
   unfolding sync_of
-  sync_above e k l h = rw (eq-eqb (length s) 16 e, at_most_false p s k (rw e l) h) refl
+  sync_unclean e = rw e (ap (λ (t : Bool). pick t (judged (disagreeing p s)) None) (both_false (eqb (length s) 16)))
 
--- ---- the loop over the symbols of l from the place a on: the first i are at most p, and d of them disagree
-pub record Passed (p : ℕ) (l : List ℕ) (a i d : ℕ) : Type 0 where
-  pub few : d ≤ i
-  pub clean : (k : ℕ) → k < i → at l (a + k) ≤ p
-  pub count : d ≡ sum i (λ k. unlike (at eb90 k) (bit_at p (at l (a + k))))
+  pub sync_above : length s ≡ 16 → (k : ℕ) → k < 16 → p < at s k → sync_of p s ≡ None
+  sync_above e k l h = sync_unclean (at_most_false p s k (rw e l) h)
 
-module _ (p : ℕ) (l : List ℕ) (a : ℕ) where
-  pub passed_none : Passed p l a 0 0
-  unfolding sum
-  passed_none = record { few = omega arith; clean = λ k h. absurd (omega arith); count = refl }
+-- what sixteen symbols w of l from the place a on say is what its part there says
+pub chunk_part : (l rest w : List ℕ) (a : ℕ) → rest ≡ slice_range l a (length l) → w ≡ take 16 rest → w ≡ part l a 16
+chunk_part l rest w a e f = f ∙ ap (take 16) (e ∙ take_all (length l - a) (drop a l) (omega (arith, length-drop a l)))
 
-  passed_more : (i d e : ℕ) → at l (a + i) ≤ p → e ≤ d + 1 → e ≡ d + unlike (at eb90 i) (bit_at p (at l (a + i))) → Passed p l a i d
-      → Passed p l a (i + 1) e
-  unfolding sum
-  passed_more i d e h b q w =
-      record { few = omega (arith, w.few); clean = below_more _ i w.clean h; count = rw (add-one i) (omega (arith, w.count)) }
+pub too_few : (p : ℕ) (l : List ℕ) (a : ℕ) → length l < a + 16 → sync_of p (part l a 16) ≡ None
+too_few p l a h = sync_short p (part l a 16) (part_short l a 16 (omega arith) h)
 
-  pub passed_like : (i d : ℕ) → at l (a + i) ≤ p → bit_at p (at l (a + i)) ≡ at eb90 i → Passed p l a i d → Passed p l a (i + 1) d
-  passed_like i d h e w = passed_more i d d h (omega arith) (rw (eq-eqb _ _ (sym e)) (omega arith)) w
+-- ---- counting the symbols that disagree
+-- whether a symbol, beside one of EB90, disagrees
+abbrev pub disagrees : ℕ → ℕ × ℕ → Bool
+disagrees p x = not (eqb (bit_at p x.1) x.0)
 
-  pub passed_unlike : (i d : ℕ) → at l (a + i) ≤ p → (bit_at p (at l (a + i)) ≡ at eb90 i → ⊥) → Passed p l a i d → Passed p l a (i + 1) (d + 1)
-  passed_unlike i d h e w = passed_more i d (d + 1) h (omega arith) (rw (ne_eqb _ _ (λ z. e (sym z))) refl) w
+one_more : (b x : ℕ) → unlike b x ≡ cond (not (eqb x b)) 1 0
+one_more b x = rw (same_test b x x b sym sym) (go (eqb x b))
+  where
+    go : (t : Bool) → pick {A = ℕ} t 0 1 ≡ cond (not t) 1 0
+    go true = refl
+    go false = refl
 
-  pub passed_all : (i d : ℕ) → a + 16 ≤ length l → i ≡ 16 → Passed p l a i d → judged d ≡ sync_of p (part l a 16)
-  unfolding disagreeing
-  passed_all i d fits e w =
-      let s : List ℕ = part l a 16 in
-      let long : length s ≡ 16 = part_long l a 16 fits in
-      let f : ℕ → ℕ = λ k. unlike (at eb90 k) (bit_at p (at l (a + k))) in
-      ap judged
-      (w.count ∙ ap (λ (n : ℕ). sum n f) e
-      ∙ sum_same 16 _ _ (λ k h. ap (unlike (at eb90 k)) (sym (map_at (bit_at p) s k (omega arith) ∙ ap (bit_at p) (part_at l a 16 k h))))
-      ∙ sym (differences_sum 16 eb90 (map (bit_at p) s) eb90_long (map_long (bit_at p) s ∙ long)))
-      ∙ sym (sync_held p s long (at_most_all p s (λ k h. rw (part_at l a 16 k (omega arith)) (w.clean k (omega arith)))))
+counted_from : (p : ℕ) (u s : List ℕ) (n : ℕ) → fold (λ a x. a + cond (disagrees p x) 1 0) n (zip u s) ≡ n + differences u (map (bit_at p) s)
+unfolding differences
+counted_from p [] s n = omega arith
+counted_from p (b ∷ u) [] n = omega arith
+counted_from p (b ∷ u) (l ∷ s) n = omega (arith, one_more b (bit_at p l), counted_from p u s (n + cond (disagrees p (b, l)) 1 0))
 
-  pub passed_above : (i : ℕ) → a + 16 ≤ length l → i < 16 → p < at l (a + i) → sync_of p (part l a 16) ≡ Missing
-  passed_above i fits h k = sync_above p (part l a 16) (part_long l a 16 fits) i h (rw (part_at l a 16 i h) k)
+pub counted : (p : ℕ) (s : List ℕ) → count_by (disagrees p) (zip eb90 s) ≡ disagreeing p s
+unfolding disagreeing
+counted p s = omega (arith, counted_from p eb90 s 0)
 
-  pub too_few : length l < a + 16 → sync_of p (part l a 16) ≡ Missing
-  too_few h = sync_short p (part l a 16) (part_short l a 16 (omega arith) h)
+-- ---- no symbol above p
+highest_both : (p a b : ℕ) → leb (max a b) p ≡ both (leb a p) (leb b p)
+highest_both p a b = grind (arith, nat_tests)
+
+highest_from : (p : ℕ) (s : List ℕ) (a : ℕ) → leb (fold max a s) p ≡ both (leb a p) (at_most p s)
+unfolding at_most
+highest_from p [] a = go (leb a p)
+  where
+    go : (t : Bool) → t ≡ both t true
+    go true = refl
+    go false = refl
+highest_from p (b ∷ s) a = highest_from p s (max a b) ∙ ap (λ (t : Bool). both t (at_most p s)) (highest_both p a b) ∙ go (leb a p) (leb b p) (at_most p s)
+  where
+    go : (s t u : Bool) → both (both s t) u ≡ both s (both t u)
+    go true t u = refl
+    go false t u = refl
+
+pub highest_at_most : (p : ℕ) (s : List ℕ) → leb (fold max 0 s) p ≡ at_most p s
+highest_at_most p s = highest_from p s 0 ∙ ap (λ (t : Bool). both t (at_most p s)) (le-leb 0 p (omega arith))
 
 -- ---- bits
 bit_read : (b : ℕ) → b ≤ 1 → bit_at 1 b ≡ b
@@ -117,10 +131,10 @@ differences_turned (x ∷ a) (y ∷ b) h k e =
     omega (arith, differ_other x y h.0 k.0, differences_turned a b h.1 k.1 (omega arith))
 
 module _ (s : List ℕ) (bits : Bits s) (long : length s ≡ 16) (near : differences eb90 s ≤ 2) where
-  pub sync_upright : sync_of 1 s ≡ Upright
+  pub sync_upright : sync_of 1 s ≡ Some Upright
   sync_upright = sync_held 1 s long bits ∙ judged_upright _ (rw (disagreeing_bits s bits) near)
 
-  pub sync_turned : sync_of 1 (turned_levels 1 s) ≡ TurnedOver
+  pub sync_turned : sync_of 1 (turned_levels 1 s) ≡ Some TurnedOver
   sync_turned =
       sync_held 1 (turned_levels 1 s) (turned_long 1 s ∙ long) (turned_at_most 1 s)
       ∙ judged_turned _
@@ -134,6 +148,6 @@ amiss n = turned_levels 1 (take n eb90) ++ drop n eb90
 -- 0 and 2 disagreeing symbols upright, 3 and 13 no sync, 14 and 16 turned over; and no sync where a symbol is above 1
 pub edge_syncs :
     map (sync_of 1) (amiss 0 ∷ amiss 2 ∷ amiss 3 ∷ amiss 13 ∷ amiss 14 ∷ amiss 16 ∷ set eb90 15 2 ∷ [])
-    ≡ Upright ∷ Upright ∷ Missing ∷ Missing ∷ TurnedOver ∷ TurnedOver ∷ Missing ∷ []
+    ≡ Some Upright ∷ Some Upright ∷ None ∷ None ∷ Some TurnedOver ∷ Some TurnedOver ∷ None ∷ []
 unfolding amiss turned_levels sync_of at_most judged disagreeing differences bit_at eb90
 edge_syncs = refl

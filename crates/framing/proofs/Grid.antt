@@ -2,18 +2,16 @@
 -- and emptied in the other order the grid gives what the interleaver's definition says.
 -- Assumes nothing.
 use mathlib.Core.Path.{◌≡◌, ◌∙◌, sym, ap, ap₂}
-use mathlib.Core.List.{List, [], ◌++◌}
-use Prim.Native.Nat.{ℕ, ◌+◌, ◌-◌, ◌/◌, ◌%◌, ◌≤◌, ◌<◌}
+use mathlib.Core.List.{List, []}
+use Prim.Native.Nat.{ℕ, ◌+◌, ◌/◌, ◌%◌, ◌≤◌, ◌<◌}
 use native.Mathlib.Omega.{arith}
 use native.Mathlib.Decide.{ℕ_discrete}
-use lib.ListN.{length, get_or, set, length-append, length-set, replicate, get_or-replicate, length-replicate, get_or-append}
-use lib.Seq.{get_or-append-add, get_or-set_same, get_or-set_other}
+use lib.ListN.{length, get_or, set, length-set, replicate, get_or-replicate, length-replicate}
+use lib.Seq.{get_or-set_same, get_or-set_other}
 use Rattle.bits.specs.Lists.{at}
 use Rattle.bits.proofs.Build.{build_long, build_at, built}
 use Rattle.framing.specs.Grid.{cell, rowwise, columnwise, Filled, by_rows, by_columns}
-use Rattle.framing.specs.Sync.{eb90}
 use Rattle.framing.specs.Interleaver.{place, home, interleaved, deinterleaved}
-use Rattle.framing.proofs.Subframe.{eb90_long}
 
 -- one cell stored
 abbrev pub stored : List (List ℕ) → ℕ → ℕ → ℕ → List (List ℕ)
@@ -85,19 +83,3 @@ unfolding by_rows interleaved
 emptied_by_rows l g w =
     built 584 (λ k. at l (home k)) (by_rows g) (build_long 584 _)
     (λ k h. build_at 584 (λ k. cell g (k / 73) (k % 73)) k h ∙ w.holds (k / 73) (k % 73) (omega arith) (omega arith) (omega arith))
-
--- what is sent is the sync, and the cells row by row
-module _ (g : List (List ℕ)) where
-  pub sent_long : length (eb90 ++ by_rows g) ≡ 600
-  unfolding by_rows
-  sent_long = length-append eb90 (by_rows g) ∙ ap₂ ◌+◌ eb90_long (build_long 584 _)
-
-  pub sent_sync : (k : ℕ) → k < 16 → at eb90 k ≡ at (eb90 ++ by_rows g) k
-  sent_sync k h = sym (get_or-append eb90 (by_rows g) 0 k (rw eb90_long h))
-
-  pub sent_cells : (k : ℕ) → 16 ≤ k → k < 600 → cell g ((k - 16) / 73) ((k - 16) % 73) ≡ at (eb90 ++ by_rows g) k
-  unfolding by_rows
-  sent_cells k l h =
-      sym (build_at 584 (λ k. cell g (k / 73) (k % 73)) (k - 16) (omega arith))
-      ∙ sym (get_or-append-add eb90 (by_rows g) (k - 16) 0)
-      ∙ ap (at (eb90 ++ by_rows g)) (omega (arith, eb90_long))

@@ -1,18 +1,20 @@
 // A subframe's 600 symbols: the sync, turning over, and the interleaver, a grid of eight rows of seventy-three symbols.
-// Levels go from 0 to `top`; at `top` 1 they are symbols.
+// Levels go from 0 to `top`; at `top` 1 they are symbols. It is a number beside the levels and no struct with them, as the definitions have it.
 #![tactic(auto)]
 
-ghost use Rattle.std.specs.Prelude.{◌≡◌, ◌++◌, ◌-◌, max, length, drop};
+ghost use Rattle.std.specs.Prelude.{◌≡◌, ◌++◌, ◌-◌, drop};
 ghost use Rattle.bits.specs.Lists.{pick, part, at_most};
-ghost use Rattle.framing.specs.Sync.{eb90, bit_at, judged, sync_of};
+ghost use Rattle.framing.specs.Sync.{eb90, bit_at, disagreeing, judged, sync_of};
 ghost use Rattle.framing.specs.Grid.{rowwise, columnwise, Filled, by_rows, by_columns};
 ghost use Rattle.framing.specs.Frame.{turned_if, coded_of, framed};
 
-#[derive(Drop)]
+use std::array;
+
+// Which way round a subframe's symbols arrive.
+#[derive(Clone, Copy, Debug, PartialEq, Eq)]
 pub enum Polarity {
     Upright,
     TurnedOver,
-    Missing,
 }
 
 // EB90 hex, most significant bit first.
@@ -22,64 +24,51 @@ const EB90: [u8; 16] = [1, 1, 1, 0, 1, 0, 1, 1, 1, 0, 0, 1, 0, 0, 0, 0];
 fn bit_at(top: u8, level: u8) -> u8
     ensures { result ≡ bit_at top level }
 {
-    if level > top / 2 { 1 } else { 0 }
+    u8::from(level > top / 2)
 }
 
 // What the number of disagreeing symbols says.
 #[tactic(auto, using(crate::proofs::Agreement::judged_upright, crate::proofs::Agreement::judged_turned, crate::proofs::Agreement::judged_missing))]
-fn judge(disagreeing: u8) -> Polarity
+fn judge(disagreeing: u8) -> Option<Polarity>
     ensures { result ≡ judged disagreeing }
 {
     if disagreeing <= 2 {
-        return Polarity::Upright;
+        Some(Polarity::Upright)
+    } else if disagreeing >= 14 {
+        Some(Polarity::TurnedOver)
+    } else {
+        None
     }
-    if disagreeing >= 14 {
-        return Polarity::TurnedOver;
-    }
-    Polarity::Missing
+}
+
+// How many symbols, read as bits, differ from EB90's.
+fn disagreeing(top: u8, window: &[u8; 16]) -> u8
+    ensures { result ≡ disagreeing top window.now }
+{
+    EB90.iter()
+        .zip(window)
+        .map(|(bit, level)| u8::from(bit_at(top, *level) != *bit))
+        .sum()
 }
 
 // What the sixteen symbols from a place on say; there is no sync where fewer are left.
-#[tactic(auto, using(crate::proofs::Agreement::passed_above))]
-pub fn sync(top: u8, symbols: &[u8], at: usize) -> Polarity
+pub fn sync(top: u8, symbols: &[u8], at: usize) -> Option<Polarity>
     ensures { result ≡ sync_of top (part symbols.now at 16) }
 {
-    if symbols.len() < 16 {
-        return Polarity::Missing;
+    let window = symbols.get(at..)?.first_chunk::<16>()?;
+    if !clean(top, window) {
+        return None;
     }
-    if symbols.len() - 16 < at {
-        return Polarity::Missing;
-    }
-    let sync = EB90;
-    let mut disagreeing: u8 = 0;
-    let mut i = 0;
-    while i < 16 {
-        let level = symbols[at + i];
-        if level > top {
-            return Polarity::Missing;
-        }
-        if bit_at(top, level) != sync[i] {
-            disagreeing += 1;
-        }
-        i += 1;
-    }
-    judge(disagreeing)
+    judge(disagreeing(top, window))
 }
 
-fn higher(a: u8, b: u8) -> u8
-    ensures { result ≡ max a b }
-{
-    if a < b { b } else { a }
-}
-
-// Whether no symbol is above `top`, by the highest of them: no way out of the loop, so that it goes over many at once.
+// Whether no symbol is above `top`, by the highest of them: unlike `all`, a `fold` has no way out, so that it goes over many at once.
 pub fn clean(top: u8, symbols: &[u8]) -> bool
     ensures { result ≡ at_most top symbols.now }
 {
-    let mut highest = 0;
-    for i in 0..symbols.len() {
-        highest = higher(highest, symbols[i]);
-    }
+    let highest = symbols
+        .iter()
+        .fold(0, |highest: u8, level| highest.max(*level));
     highest <= top
 }
 
@@ -88,22 +77,21 @@ fn turned(top: u8, turned_over: bool, level: u8) -> u8
     ensures { result ≡ pick turned_over (top - level) level }
 {
     if turned_over {
-        if level <= top { top - level } else { 0 }
+        top.saturating_sub(level)
     } else {
         level
     }
 }
 
+// The grid is filled in two ways and emptied in two. Each adds its own, turning over or the sync: with the place as a closure the four get no shorter.
+
 // The reader fills the grid row by row, as the symbols after the sync arrive.
-fn fill_rows(top: u8, symbols: &[u8], turned_over: bool) -> [[u8; 73]; 8]
-    requires { length symbols.now ≡ 600 }
+fn fill_rows(top: u8, symbols: &[u8; 600], turned_over: bool) -> [[u8; 73]; 8]
     ensures { Filled rowwise (drop 16 (turned_if turned_over top symbols.now)) result 584 }
 {
     let mut grid = [[0u8; 73]; 8];
-    let mut i = 0;
-    while i < 584 {
-        grid[i / 73][i % 73] = turned(top, turned_over, symbols[16 + i]);
-        i += 1;
+    for (i, &level) in symbols[16..].iter().enumerate() {
+        grid[i / 73][i % 73] = turned(top, turned_over, level);
     }
     grid
 }
@@ -112,13 +100,7 @@ fn fill_rows(top: u8, symbols: &[u8], turned_over: bool) -> [[u8; 73]; 8]
 fn by_columns(grid: [[u8; 73]; 8]) -> [u8; 584]
     ensures { result ≡ by_columns grid }
 {
-    let mut out = [0u8; 584];
-    let mut i = 0;
-    while i < 584 {
-        out[i] = grid[i % 8][i / 8];
-        i += 1;
-    }
-    out
+    array::from_fn(|i| grid[i % 8][i / 8])
 }
 
 // The 584 coded symbols of a subframe, upright, in the order in which they were coded.
@@ -129,15 +111,12 @@ pub fn coded(top: u8, symbols: &[u8; 600], turned_over: bool) -> [u8; 584]
 }
 
 // The writer fills the grid by columns.
-fn fill_columns(coded: &[u8]) -> [[u8; 73]; 8]
-    requires { length coded.now ≡ 584 }
+fn fill_columns(coded: &[u8; 584]) -> [[u8; 73]; 8]
     ensures { Filled columnwise coded.now result 584 }
 {
     let mut grid = [[0u8; 73]; 8];
-    let mut i = 0;
-    while i < 584 {
-        grid[i % 8][i / 8] = coded[i];
-        i += 1;
+    for (i, &symbol) in coded.iter().enumerate() {
+        grid[i % 8][i / 8] = symbol;
     }
     grid
 }
@@ -146,17 +125,10 @@ fn fill_columns(coded: &[u8]) -> [[u8; 73]; 8]
 fn by_rows(grid: [[u8; 73]; 8]) -> [u8; 600]
     ensures { result ≡ eb90 ++ by_rows grid }
 {
-    let sync = EB90;
+    let symbols: [u8; 584] = array::from_fn(|i| grid[i / 73][i % 73]);
     let mut out = [0u8; 600];
-    let mut i = 0;
-    while i < 600 {
-        if i < 16 {
-            out[i] = sync[i];
-        } else {
-            out[i] = grid[(i - 16) / 73][(i - 16) % 73];
-        }
-        i += 1;
-    }
+    out[..16].copy_from_slice(&EB90);
+    out[16..].copy_from_slice(&symbols);
     out
 }
 

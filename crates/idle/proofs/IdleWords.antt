@@ -14,7 +14,7 @@ use Rattle.idle.proofs.Fitting.{rows_inside, fits_only, fits_if}
 
 module _ (word : List ℕ) (bits : Bits word) (long : length word ≡ 286) where
   -- n stands for the subframe ID: only 2 and 3 have a row whose check is spoiled
-  idle_only : (n : ℕ) → number (part word 27 2) ≡ n → both (get_or rows n no_row).4 (fits (get_or rows n no_row) word) ≡ true → Idle word
+  idle_only : (n : ℕ) → number (part word 27 2) ≡ n → both (get_or rows n no_row).spoiled (fits (get_or rows n no_row) word) ≡ true → Idle word
   unfolding rows
   idle_only zero q e = absurd (let z : ◌≡◌ {A = ℕ} 0 1 = (cc) in omega arith)
   idle_only (suc zero) q e = absurd (let z : ◌≡◌ {A = ℕ} 0 1 = (cc) in omega arith)
@@ -48,7 +48,7 @@ pub idle_alert : (word : List ℕ) → at word 25 ≡ 1 → idle_of word ≡ fal
 unfolding rows fits idle_of pattern_of
 idle_alert word e = by (number (part word 27 2))
   where
-    by : (n : ℕ) → both (get_or rows n no_row).4 (fits (get_or rows n no_row) word) ≡ false
+    by : (n : ℕ) → both (get_or rows n no_row).spoiled (fits (get_or rows n no_row) word) ≡ false
     by zero = refl
     by (suc zero) = refl
     by (suc (suc zero)) = rw e
@@ -60,7 +60,7 @@ pub idle_not_first_two : (word : List ℕ) → number (part word 27 2) ≤ 1 →
 unfolding rows idle_of pattern_of
 idle_not_first_two word h = by (number (part word 27 2)) h
   where
-    by : (n : ℕ) → n ≤ 1 → both (get_or rows n no_row).4 (fits (get_or rows n no_row) word) ≡ false
+    by : (n : ℕ) → n ≤ 1 → both (get_or rows n no_row).spoiled (fits (get_or rows n no_row) word) ≡ false
     by zero h = refl
     by (suc zero) h = refl
     by (suc (suc n)) h = absurd (omega arith)

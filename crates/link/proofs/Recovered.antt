@@ -7,6 +7,7 @@ use Prim.Native.Nat.{ℕ, ◌≤◌}
 use native.Mathlib.Omega.{arith}
 use lib.ListN.{length, take, drop, length-drop}
 use lib.Seq.{length-take-le}
+use Rattle.std.specs.Prelude.{Some, Ok}
 use Rattle.bits.specs.Lists.{Bits, differences}
 use Rattle.bits.proofs.Lists.{at_most_take, at_most_true, map_take}
 use Rattle.bits.proofs.Sum.{differences_none}
@@ -17,15 +18,17 @@ use Rattle.crc24q.specs.Check.{agrees_of}
 use Rattle.framing.specs.Frame.{turned_levels, turned_if, coded_of}
 use Rattle.framing.specs.Interleaver.{interleaved, deinterleaved}
 use Rattle.framing.specs.Sync.{eb90, sync_of}
-use Rattle.framing.specs.declared.Polarity.{Polarity}
-use Rattle.framing.specs.declared.Polarity.TheVariants.{Upright, TurnedOver}
 use Rattle.framing.proofs.Agreement.{sync_upright, sync_turned}
 use Rattle.framing.proofs.Interleaver.{deinterleaved_long, redone, differences_interleaved}
 use Rattle.framing.proofs.Subframe as subframe
-use Rattle.link.specs.declared.Answer.TheVariants.{Word}
+use Rattle.link.specs.declared.Received.{Received}
 use Rattle.link.specs.Link.{sent_of, word_of, corrected_of, nearest_of, by_sync, receive_of}
-use Rattle.link.specs.Promise.{IsWord, altered_coded, Altered}
+use Rattle.link.specs.Promise.{IsWord, altered_coded, Altered, polarity_of}
 use Rattle.link.proofs.Outcomes.{synced, nearest_found, count_places}
+
+-- a word w that was received, with its own check
+abbrev pub received : List ℕ → ℕ → Bool → Received
+received w n t = record { word = w; corrected = n; turned_over = t; agrees = agrees_of w }
 
 -- ---- what is sent
 pub sent_long : (w : List ℕ) → length (sent_of w) ≡ 600
@@ -50,11 +53,6 @@ module _ (w s : List ℕ) (is : IsWord w) (a : Altered (sent_of w) s) where
   turned_bits true = subframe.turned_at_most 1 s
   turned_bits false = a.bits
 
-  -- the sync tells the polarity
-  polarity : Bool → Polarity
-  polarity true = TurnedOver
-  polarity false = Upright
-
   sync_near : differences eb90 (take 16 s) ≤ 2
   sync_near = subst (λ (l : List ℕ). differences l (take 16 s) ≤ 2) (sent_sync w) a.sync
 
@@ -64,8 +62,9 @@ module _ (w s : List ℕ) (is : IsWord w) (a : Altered (sent_of w) s) where
   sync_long : length (take 16 s) ≡ 16
   sync_long = length-take-le 16 s (omega (arith, a.long))
 
-  sync_tells : (t : Bool) → sync_of 1 (take 16 (turned_if t 1 s)) ≡ polarity t
-  unfolding polarity turned_levels
+  -- the sync tells the polarity
+  sync_tells : (t : Bool) → sync_of 1 (take 16 (turned_if t 1 s)) ≡ Some (polarity_of t)
+  unfolding turned_levels
   sync_tells true = rw map_take (unfold turned_levels in sync_turned (take 16 s) sync_bits sync_long sync_near)
   sync_tells false = sync_upright (take 16 s) sync_bits sync_long sync_near
 
@@ -99,22 +98,21 @@ module _ (w s : List ℕ) (is : IsWord w) (a : Altered (sent_of w) s) where
     count : corrected_of 1 coded w ≡ altered_coded (sent_of w) s
     count = count_places coded w bits ∙ apart
 
-    nearest : nearest_of 1 t (turned_if t 1 s) ≡ record { answer = Word (altered_coded (sent_of w) s) t (agrees_of w); word = w }
+    nearest : nearest_of 1 t (turned_if t 1 s) ≡ Ok (received w (altered_coded (sent_of w) s) t)
     unfolding coded
     nearest =
         nearest_found 1 t (turned_if t 1 s)
-        ∙ ap (λ (v : List ℕ). record { answer = Word (corrected_of 1 coded v) t (agrees_of v); word = v }) word
-        ∙ ap (λ (n : ℕ). record { answer = Word n t (agrees_of w); word = w }) count
+        ∙ ap (λ (v : List ℕ). Ok (received v (corrected_of 1 coded v) t)) word
+        ∙ ap (λ (n : ℕ). Ok (received w n t)) count
 
-  by_polarity : (t : Bool) → by_sync 1 (turned_if t 1 s) (polarity t) ≡ nearest_of 1 t (turned_if t 1 s)
-  unfolding polarity
+  by_polarity : (t : Bool) → by_sync 1 (turned_if t 1 s) (Some (polarity_of t)) ≡ nearest_of 1 t (turned_if t 1 s)
   by_polarity true = refl
   by_polarity false = refl
 
   -- THE THEOREM: the word comes back, with the exact number of altered coded symbols, the polarity, and its own check
-  pub recovered : (t : Bool) → receive_of 1 (turned_if t 1 s) ≡ record { answer = Word (altered_coded (sent_of w) s) t (agrees_of w); word = w }
+  pub recovered : (t : Bool) → receive_of 1 (turned_if t 1 s) ≡ Ok (received w (altered_coded (sent_of w) s) t)
   recovered t =
-      synced 1 (turned_if t 1 s) (polarity t) (at_most_true 1 (turned_if t 1 s) (turned_bits t)) (sync_tells t) ∙ by_polarity t ∙ nearest t
+      synced 1 (turned_if t 1 s) (Some (polarity_of t)) (at_most_true 1 (turned_if t 1 s) (turned_bits t)) (sync_tells t) ∙ by_polarity t ∙ nearest t
 
 -- nothing altered
 pub unaltered : (w : List ℕ) → Altered (sent_of w) (sent_of w)
@@ -126,7 +124,7 @@ unaltered w =
       sync = omega (arith, differences_none (take 16 (sent_of w)));
     }
 
-pub sent_back : (w : List ℕ) → IsWord w → (t : Bool) → receive_of 1 (turned_if t 1 (sent_of w)) ≡ record { answer = Word 0 t (agrees_of w); word = w }
+pub sent_back : (w : List ℕ) → IsWord w → (t : Bool) → receive_of 1 (turned_if t 1 (sent_of w)) ≡ Ok (received w 0 t)
 sent_back w is t =
     recovered w (sent_of w) is (unaltered w) t
-    ∙ ap (λ (n : ℕ). record { answer = Word n t (agrees_of w); word = w }) (differences_none (drop 16 (sent_of w)))
+    ∙ ap (λ (n : ℕ). Ok (received w n t)) (differences_none (drop 16 (sent_of w)))

@@ -1,6 +1,6 @@
 -- Between a word of 286 bits and the 600 symbols of a subframe (01, "From symbols to 292 bits"), for levels from 0 to p; at p = 1 levels are
 -- symbols. Assumes nothing.
-use Rattle.std.specs.Prelude.{Bool, true, false, List, map, ℕ, ◌*◌, leb, take, replicate}
+use Rattle.std.specs.Prelude.{Bool, true, false, List, map, ℕ, ◌*◌, leb, take, replicate, Option, Some, None, Result, Ok, Err}
 use Rattle.bits.specs.Lists.{pick, at_most, differences}
 use Rattle.convolution.specs.Code.{coded_form, cost}
 use Rattle.convolution.specs.Trellis.{decode}
@@ -8,9 +8,9 @@ use Rattle.crc24q.specs.Check.{agrees_of}
 use Rattle.framing.specs.Frame.{framed, coded_of}
 use Rattle.framing.specs.Sync.{bit_at, sync_of}
 use Rattle.framing.specs.declared.Polarity.{Polarity}
-use Rattle.framing.specs.declared.Polarity.TheVariants.{Upright, TurnedOver, Missing}
-use Rattle.link.specs.declared.Answer.{Answer}
-use Rattle.link.specs.declared.Answer.TheVariants.{BadSymbol, NoSync, NoWord, Word}
+use Rattle.framing.specs.declared.Polarity.TheVariants.{Upright, TurnedOver}
+use Rattle.link.specs.declared.LinkRefusal.{LinkRefusal}
+use Rattle.link.specs.declared.LinkRefusal.TheVariants.{BadSymbol, NoSync, NoWord}
 use Rattle.link.specs.declared.Received.{Received}
 
 -- the 600 upright symbols of the word w
@@ -30,23 +30,29 @@ word_of p coded = decode p 286 coded
 unfoldable pub ends : ℕ → List ℕ → Bool
 ends p coded = leb (cost p coded (word_of p coded)) (584 * p)
 
--- beside a refusal the word is zeros
-abbrev pub refused : Answer → Received
-refused a = record { answer = a; word = replicate 286 0 }
-
 abbrev pub found : ℕ → Bool → List ℕ → Received
 found p t coded =
-    record { answer = Word (corrected_of p coded (word_of p coded)) t (agrees_of (word_of p coded)); word = word_of p coded }
+    record {
+      word = word_of p coded;
+      corrected = corrected_of p coded (word_of p coded);
+      turned_over = t;
+      agrees = agrees_of (word_of p coded);
+    }
 
-unfoldable pub nearest_of : ℕ → Bool → List ℕ → Received
-nearest_of p t s = pick (ends p (coded_of p t s)) (found p t (coded_of p t s)) (refused NoWord)
+unfoldable pub nearest_of : ℕ → Bool → List ℕ → Result Received LinkRefusal
+nearest_of p t s = pick (ends p (coded_of p t s)) (Ok (found p t (coded_of p t s))) (Err NoWord)
 
-abbrev pub by_sync : ℕ → List ℕ → Polarity → Received
-by_sync p s Upright = nearest_of p false s
-by_sync p s TurnedOver = nearest_of p true s
-by_sync p s Missing = refused NoSync
+abbrev pub by_sync : ℕ → List ℕ → Option Polarity → Result Received LinkRefusal
+by_sync p s (Some Upright) = nearest_of p false s
+by_sync p s (Some TurnedOver) = nearest_of p true s
+by_sync p s None = Err NoSync
 
 -- what 600 symbols say: 3 where a symbol is above p, then 4 where there is no sync, then 10 where no word ends in six zeros, and else the nearest
 -- word
-unfoldable pub receive_of : ℕ → List ℕ → Received
-receive_of p s = pick (at_most p s) (by_sync p s (sync_of p (take 16 s))) (refused BadSymbol)
+unfoldable pub receive_of : ℕ → List ℕ → Result Received LinkRefusal
+receive_of p s = pick (at_most p s) (by_sync p s (sync_of p (take 16 s))) (Err BadSymbol)
+
+-- the word that was received; zeros beside a refusal
+abbrev pub word_in : Result Received LinkRefusal → List ℕ
+word_in (Ok r) = r.word
+word_in (Err y) = replicate 286 0

@@ -3,7 +3,7 @@
 -- from the last bit, it has the zero at the first place where they part" (`nearest_taken`, proofs/Taken.antt). "So if a written subframe suffers
 -- up to four altered coded symbols, any four, and up to two altered sync symbols (each 0 for 1 or 1 for 0), with or without all 600 then turned
 -- over", the word comes back with the exact number of altered coded symbols (`recovered`, proofs/Recovered.antt). Assumes nothing.
-use Rattle.std.specs.Prelude.{◌≡◌, Bool, true, false, List, ℕ, ◌≤◌, length, take, drop}
+use Rattle.std.specs.Prelude.{◌≡◌, Bool, true, false, List, ℕ, ◌≤◌, length, take, drop, Some}
 use Rattle.bits.specs.Lists.{Bits, differences}
 use Rattle.convolution.specs.Code.{six_zeros, coded_form, Nearest}
 use Rattle.crc24q.specs.Check.{agrees_of}
@@ -31,14 +31,14 @@ pub record Altered (sent s : List ℕ) : Type 0 where
   pub coded : altered_coded sent s ≤ 4
   pub sync : altered_sync sent s ≤ 2
 
--- the sync's answer where a subframe is upright, and where it is turned over
+-- what the sync tells where a subframe is upright, and where it is turned over
 abbrev pub polarity_of : Bool → Polarity
 polarity_of true = TurnedOver
 polarity_of false = Upright
 
 -- w is the word nearest to the coded symbols of s, turned over where t says so; n of them differ from its coded form; a tells whether its check agrees
 pub record Taken (s : List ℕ) (t : Bool) (w : List ℕ) (n : ℕ) (a : Bool) : Type 0 where
-  pub sync : sync_of 1 (take 16 s) ≡ polarity_of t
+  pub sync : sync_of 1 (take 16 s) ≡ Some (polarity_of t)
   pub nearest : Nearest 1 286 (coded_of 1 t s) w
   pub count : n ≡ differences (coded_form w) (coded_of 1 t s)
   pub check : a ≡ agrees_of w

@@ -4,42 +4,31 @@
 ghost use Rattle.std.specs.Prelude.{◌≡◌};
 ghost use Rattle.bits.specs.Lists.{Bits};
 ghost use Rattle.framing.specs.Frame.{coded_of};
-ghost use Rattle.link.specs.Link.{sent_of, refused, nearest_of, receive_of};
+ghost use Rattle.link.specs.Link.{sent_of, nearest_of, receive_of};
 
 use framing::Polarity;
 
-// What 600 symbols say: the paper's 3, 4 and 10, or a word.
-#[derive(Clone, Copy)]
-pub enum Answer {
+// Why 600 symbols give no word: README's 3, 4 and 10.
+#[derive(Clone, Copy, Debug, PartialEq, Eq)]
+pub enum LinkRefusal {
     BadSymbol,
     NoSync,
     NoWord,
-    Word {
-        corrected: u16,
-        turned_over: bool,
-        agrees: bool,
-    },
 }
 
-// The answer, and the word of 286 bits beside it, a byte for each; zeros where there is none.
+// The word of 286 bits, a byte for each, how many coded symbols were corrected, the polarity, and whether the check agrees. The
+// polarity is a bool, since definitions and theorems speak of it as one (`turned_if`).
 #[derive(Clone, Copy)]
 pub struct Received {
-    pub answer: Answer,
     pub word: [u8; 286],
-}
-
-fn refuse(answer: Answer) -> Received
-    ensures { result ≡ refused answer }
-{
-    Received {
-        answer,
-        word: [0; 286],
-    }
+    pub corrected: u16,
+    pub turned_over: bool,
+    pub agrees: bool,
 }
 
 // The nearest word once the polarity is known.
-#[tactic(auto, using(crate::proofs::Outcomes::none_told))]
-fn nearest_word(symbols: &[u8; 600], turned_over: bool) -> Received
+#[tactic(auto, using(crate::proofs::Outcomes::none_told, crate::proofs::Outcomes::nearest_told))]
+fn nearest_word(symbols: &[u8; 600], turned_over: bool) -> Result<Received, LinkRefusal>
     requires { Bits (coded_of 1 turned_over symbols.now) }
     ensures { result ≡ nearest_of 1 turned_over symbols.now }
 {
@@ -47,36 +36,33 @@ fn nearest_word(symbols: &[u8; 600], turned_over: bool) -> Received
     let mut word = [0u8; 286];
     let corrected = nearest::nearest(&coded, &mut word);
     if 584 < corrected {
-        return refuse(Answer::NoWord);
+        return Err(LinkRefusal::NoWord);
     }
     let agrees = crc24q::agrees(&word);
-    let answer = Answer::Word {
+    Ok(Received {
+        word,
         corrected,
         turned_over,
         agrees,
-    };
-    Received { answer, word }
+    })
 }
 
-// The word of 286 bits nearest to 600 symbols, how many coded symbols were corrected, the polarity, and whether the check agrees.
-pub fn receive(symbols: &[u8; 600]) -> Received
+// The nearest word of 600 symbols, or why there is none.
+#[tactic(auto, using(crate::proofs::Outcomes::symbol_refused, crate::proofs::Outcomes::clean_bits, crate::proofs::Outcomes::upright, crate::proofs::Outcomes::turned_over, crate::proofs::Outcomes::unsynced))]
+pub fn receive(symbols: &[u8; 600]) -> Result<Received, LinkRefusal>
     ensures { result ≡ receive_of 1 symbols.now }
 {
-    if framing::clean(1, symbols) {
-        match framing::sync(1, symbols, 0) {
-            Polarity::Upright => nearest_word(symbols, false),
-            Polarity::TurnedOver => nearest_word(symbols, true),
-            Polarity::Missing => refuse(Answer::NoSync),
-        }
-    } else {
-        refuse(Answer::BadSymbol)
+    if !framing::clean(1, symbols) {
+        return Err(LinkRefusal::BadSymbol);
     }
+    let polarity = framing::sync(1, symbols, 0).ok_or(LinkRefusal::NoSync)?;
+    nearest_word(symbols, polarity == Polarity::TurnedOver)
 }
 
 // The 600 upright symbols of a word.
+#[tactic(auto, unfolding(crate::specs::Link::sent_of))]
 pub fn send(word: &[u8; 286]) -> [u8; 600]
     ensures { result ≡ sent_of word.now }
 {
-    let coded = convolution::encode(word);
-    framing::frame(&coded)
+    framing::frame(&convolution::encode(word))
 }

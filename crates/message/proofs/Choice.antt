@@ -5,11 +5,7 @@ use Prim.Native.Nat.{ℕ}
 use native.Mathlib.Omega.{arith}
 use borrow.Author.Tests.{eqb-true}
 use lib.Dec.{eqb}
-use Rattle.bits.specs.Lists.{pick, both}
-
-pub both_holds : (a b : Bool) → both a b ≡ true → (a ≡ true) × (b ≡ true)
-both_holds true b e = (refl, e)
-both_holds false b e = absurd (let z : ◌≡◌ {A = ℕ} 0 1 = (cc) in omega arith)
+use Rattle.bits.specs.Lists.{pick}
 
 pub neither : (a b : Bool) → pick a true b ≡ false → (a ≡ false) × (b ≡ false)
 neither true b e = absurd (let z : ◌≡◌ {A = ℕ} 0 1 = (cc) in omega arith)

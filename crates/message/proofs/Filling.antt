@@ -1,11 +1,11 @@
 -- A list, of whatever it holds, that a loop fills from its start. Assumes nothing.
-use mathlib.Core.Path.{◌≡◌, refl, ◌∙◌}
+use mathlib.Core.Path.{◌≡◌, refl, sym, ap, ◌∙◌}
 use mathlib.Core.List.{List}
 use Prim.Native.Nat.{ℕ, zero, suc, ◌+◌, ◌≤◌, ◌<◌}
 use native.Mathlib.Omega.{arith}
 use borrow.Author.Count.{below_more}
 use lib.ListN.{length, get_or, set, length-set}
-use lib.Seq.{get_or-set_same, get_or-set_other}
+use lib.Seq.{get_or-set_same, get_or-set_other, ext_get_or}
 use Rattle.bits.specs.Lists.{build}
 use Rattle.bits.proofs.Build.{built}
 use Rattle.message.specs.Numbers.{list_of}
@@ -34,8 +34,17 @@ filled_to d f n i m l e w = record { long = w.long; here = λ k h. w.here k (ome
 pub filled_all : (f : ℕ → ℕ) (n i : ℕ) (l : List ℕ) → n ≤ i → Filled 0 f n i l → l ≡ build n f
 filled_all f n i l h w = built n f l w.long (λ k lt. w.here k (omega arith))
 
--- what stands at a place of a list that is told by its elements
-pub list_at : {A : Type 0} (n : ℕ) (f : ℕ → A) (k : ℕ) (d : A) → k < n → get_or (list_of n f) k d ≡ f k
+-- a list that is told by its elements: how long it is, and what stands at a place
+list_long : {A : Type 0} (n : ℕ) (f : ℕ → A) → length (list_of n f) ≡ n
+list_long zero f = refl
+list_long (suc n) f = ap suc (list_long n (λ i. f (suc i)))
+
+list_at : {A : Type 0} (n : ℕ) (f : ℕ → A) (k : ℕ) (d : A) → k < n → get_or (list_of n f) k d ≡ f k
 list_at zero f k d h = absurd (omega arith)
 list_at (suc n) f zero d h = refl
 list_at (suc n) f (suc k) d h = list_at n (λ i. f (suc i)) k d (omega arith)
+
+-- all of a list, of whatever it holds
+pub filled_list : {A : Type 0} (d : A) (f : ℕ → A) (n i : ℕ) (l : List A) → n ≤ i → Filled d f n i l → l ≡ list_of n f
+filled_list d f n i l h w =
+    ext_get_or d l (list_of n f) (w.long ∙ sym (list_long n f)) (λ k lt. w.here k (omega (arith, w.long)) ∙ sym (list_at n f k d (omega (arith, w.long))))

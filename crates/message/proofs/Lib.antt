@@ -1,6 +1,5 @@
 pub mod Choice
 pub mod Filling
-pub mod Kept
 pub mod Laws
 pub mod Laying
 pub mod Parsing

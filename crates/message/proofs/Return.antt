@@ -7,7 +7,7 @@ use native.Mathlib.Omega.{arith}
 use borrow.Author.Tests.{eqb-true}
 use lib.Dec.{eqb, ltb}
 use lib.IntN.{ℤ}
-use lib.ListN.{length, replicate}
+use lib.ListN.{length, replicate, length-map}
 use Rattle.bits.specs.Lists.{pick, both, at, build, AtMost, at_most}
 use Rattle.bits.proofs.Build.{built}
 use Rattle.bits.proofs.Lists.{at_most_holds}
@@ -19,12 +19,16 @@ use Rattle.message.specs.declared.Subframe2.{Subframe2}
 use Rattle.message.specs.declared.IonoGrid.{IonoGrid}
 use Rattle.message.specs.declared.Record.{Record}
 use Rattle.message.specs.declared.Record.TheVariants as case
+use Rattle.message.specs.declared.Pair.{Pair}
 use Rattle.message.specs.declared.Beside.{Beside}
 use Rattle.message.specs.declared.Field.{Field}
-use Rattle.message.specs.Numbers.{number_of, message_fields, subframe1_fields, subframe2_fields, iono_grid_fields, almanac_fields, time_offsets_fields, earth_iono_fields, data_fields, head_fields}
+use Rattle.message.specs.Numbers.{number_of, list_of, no_pair, giveis, givds, message_fields, subframe1_fields, subframe2_fields, iono_grid_fields, almanac_fields, time_offsets_fields, earth_iono_fields, data_fields, head_fields}
 use Rattle.message.specs.Numbers.{head_of, slot_id, slot_of, unsigned, nth, View, view_of, nothing, pairs_of, data_of, subframe1_of, subframe2_of, iono_grid_of, almanac_of, time_offsets_of, earth_iono_of, null_of, unread_of}
 use Rattle.message.specs.Records.{among, id_refused, layout_of, layout_by, message_layout, entry_by, message_by, numbers_of, used_by, unused_zero, zeros?, pairs, bits}
-use Rattle.message.proofs.Choice.{both_holds, neither}
+use Rattle.bits.proofs.Both.{both_holds}
+use Rattle.message.proofs.Choice.{neither}
+use Rattle.message.proofs.Filling.{filled_list}
+use Rattle.message.proofs.Laying.{map_at}
 
 -- ---- IDs
 -- an ID that no other case has
@@ -85,40 +89,62 @@ zeros_are n l e =
     let p = both_holds (eqb (length l) n) (at_most 0 l) e in
     ap (λ (k : ℕ). replicate k 0) (sym (eqb-true (length l) n p.0)) ∙ zeros_all l (at_most_holds 0 l p.1)
 
+none_all : (ps : List Pair) → AtMost 0 (map (λ p. p.givei) ps) → AtMost 0 (map (λ p. p.givd) ps) → replicate (length ps) no_pair ≡ ps
+none_all [] h k = refl
+none_all (p ∷ ps) h k =
+    let e : 0 ≡ p.givei = omega arith in
+    let d : 0 ≡ p.givd = omega arith in
+    λ i. record { givei = e i; givd = d i } ∷ none_all ps h.1 k.1 i
+
+pairs_are : (b : Beside) → both (zeros? 15 (giveis b)) (zeros? 15 (givds b)) ≡ true → replicate 15 no_pair ≡ b.pairs
+pairs_are b u =
+    let p = both_holds (zeros? 15 (giveis b)) (zeros? 15 (givds b)) u in
+    let e = both_holds (eqb (length (giveis b)) 15) (at_most 0 (giveis b)) p.0 in
+    let d = both_holds (eqb (length (givds b)) 15) (at_most 0 (givds b)) p.1 in
+    let long : 15 ≡ length b.pairs = sym (eqb-true (length (giveis b)) 15 e.0) ∙ length-map b.pairs (λ p. p.givei) in
+    ap (λ (k : ℕ). replicate k no_pair) long ∙ none_all b.pairs (at_most_holds 0 (giveis b) e.1) (at_most_holds 0 (givds b) d.1)
+
+-- as many pairs as there are, told by their numbers
+pairs_whole : (b : Beside) → length (giveis b) ≡ 15 → list_of 15 (λ i. record { givei = at (giveis b) i; givd = at (givds b) i }) ≡ b.pairs
+pairs_whole b e =
+    let pair : ℕ → Pair = λ i. record { givei = at (giveis b) i; givd = at (givds b) i } in
+    sym (
+    filled_list no_pair pair 15 15 b.pairs (omega arith) (
+    record {
+      long = sym (length-map b.pairs (λ p. p.givei)) ∙ e;
+      here = λ k h j. record { givei = sym (map_at (λ p. p.givei) b.pairs no_pair k) j; givd = sym (map_at (λ p. p.givd) b.pairs no_pair k) j };
+    }
+    )
+    )
+
 whole : (n : ℕ) (l : List ℕ) → length l ≡ n → build n (at l) ≡ l
 whole n l e = sym (built n (at l) l e (λ i h. refl))
 
-nothing_back : (b : Beside) → both (zeros? 28 b.bits) (both (zeros? 15 b.givei) (zeros? 15 b.givd)) ≡ true → nothing ≡ b
+nothing_back : (b : Beside) → both (zeros? 28 b.bits) (both (zeros? 15 (giveis b)) (zeros? 15 (givds b))) ≡ true → nothing ≡ b
 nothing_back b u =
-    let p = both_holds (zeros? 28 b.bits) (both (zeros? 15 b.givei) (zeros? 15 b.givd)) u in
-    let q = both_holds (zeros? 15 b.givei) (zeros? 15 b.givd) p.1 in
-    λ i. record { bits = zeros_are 28 b.bits p.0 i; givei = zeros_are 15 b.givei q.0 i; givd = zeros_are 15 b.givd q.1 i }
+    let p = both_holds (zeros? 28 b.bits) (both (zeros? 15 (giveis b)) (zeros? 15 (givds b))) u in
+    λ i. record { bits = zeros_are 28 b.bits p.0 i; pairs = pairs_are b p.1 i }
 
 pairs_back : (c : IonoGrid) (b : Beside) → unused_zero pairs b ≡ true → pairs_of (view_of (numbers_of (case.IonoGrid c) b)) ≡ b
 unfolding build
 pairs_back c b u =
-    let p = both_holds (zeros? 28 b.bits) (both (eqb (length b.givei) 15) (eqb (length b.givd) 15)) u in
-    let q = both_holds (eqb (length b.givei) 15) (eqb (length b.givd) 15) p.1 in
-    λ i. record {
-      bits = zeros_are 28 b.bits p.0 i;
-      givei = whole 15 b.givei (eqb-true (length b.givei) 15 q.0) i;
-      givd = whole 15 b.givd (eqb-true (length b.givd) 15 q.1) i;
-    }
+    let p = both_holds (zeros? 28 b.bits) (both (eqb (length (giveis b)) 15) (eqb (length (givds b)) 15)) u in
+    let q = both_holds (eqb (length (giveis b)) 15) (eqb (length (givds b)) 15) p.1 in
+    λ i. record { bits = zeros_are 28 b.bits p.0 i; pairs = pairs_whole b (eqb-true (length (giveis b)) 15 q.0) i }
 
 -- the data of a null or unread message, whatever its ID
 data_back : (h : Head) (s : Slot) (id prn : ℕ) (b : Beside) → unused_zero bits b ≡ true
     → data_of (view_of (map (number_of b) (head_fields h (slot_id s) ++ message_fields id data_fields prn))) ≡ b
 unfolding build
 data_back h s id prn b u =
-    let p = both_holds (both (eqb (length b.bits) 28) (eqb (at b.bits 27 % 16) 0)) (both (zeros? 15 b.givei) (zeros? 15 b.givd)) u in
+    let p = both_holds (both (eqb (length b.bits) 28) (eqb (at b.bits 27 % 16) 0)) (both (zeros? 15 (giveis b)) (zeros? 15 (givds b))) u in
     let q = both_holds (eqb (length b.bits) 28) (eqb (at b.bits 27 % 16) 0) p.0 in
-    let r = both_holds (zeros? 15 b.givei) (zeros? 15 b.givd) p.1 in
     let low : at b.bits 27 % 16 ≡ 0 = eqb-true (at b.bits 27 % 16) 0 q.1 in
     let last : at b.bits 27 / 16 * 16 ≡ at b.bits 27 = omega arith in
     let all : build 28 (λ i. pick (eqb i 27) (at b.bits 27 / 16 * 16) (at b.bits i)) ≡ b.bits =
     ap (λ (n : ℕ). build 28 (λ i. pick (eqb i 27) n (at b.bits i))) last
     ∙ whole 28 b.bits (eqb-true (length b.bits) 28 q.0) in
-    λ i. record { bits = all i; givei = zeros_are 15 b.givei r.0 i; givd = zeros_are 15 b.givd r.1 i }
+    λ i. record { bits = all i; pairs = pairs_are b p.1 i }
 
 -- ---- the records
 -- the numbers of the fields, with the head and the slot that the record has

@@ -25,7 +25,8 @@ use Rattle.fields.specs.Patterns.{no_row, pattern, patterns}
 use Rattle.fields.proofs.Twos.{value_holds}
 use Rattle.message.specs.Numbers.{View, view_of, nth, nat, unsigned, head_of, slot_of}
 use Rattle.message.specs.Raw.{look, by_bits, plain_at, signed_at, head_from}
-use Rattle.message.proofs.Choice.{both_holds, second, where_true}
+use Rattle.bits.proofs.Both.{both_holds}
+use Rattle.message.proofs.Choice.{second, where_true}
 use Rattle.message.proofs.Laying.{map_at, patterns_at}
 
 -- ---- where a row has an unsigned field of at most w bits, and where a signed one of at most 32

@@ -1,5 +1,5 @@
 -- A record and what stands beside it as the numbers of its fields, in the table's order, and back (01, "The fields"). Assumes nothing.
-use Rattle.std.specs.Prelude.{Bool, List, [], ◌∷◌, ◌++◌, ℕ, zero, suc, ◌+◌, ◌*◌, ◌/◌, ◌%◌, eqb, ℤ, pos, negsuc, get_or, replicate}
+use Rattle.std.specs.Prelude.{Bool, List, [], ◌∷◌, ◌++◌, map, ℕ, zero, suc, ◌+◌, ◌*◌, ◌/◌, ◌%◌, eqb, ℤ, pos, negsuc, get_or, replicate}
 use Rattle.bits.specs.Lists.{pick, at, build}
 use Rattle.weektime.specs.declared.Week.{Week}
 use Rattle.message.specs.declared.Head.{Head}
@@ -13,6 +13,7 @@ use Rattle.message.specs.declared.TimeOffsets.{TimeOffsets}
 use Rattle.message.specs.declared.EarthIono.{EarthIono}
 use Rattle.message.specs.declared.Null.{Null}
 use Rattle.message.specs.declared.Unread.{Unread}
+use Rattle.message.specs.declared.Pair.{Pair}
 use Rattle.message.specs.declared.Beside.{Beside}
 use Rattle.message.specs.declared.Field.{Field}
 use Rattle.message.specs.declared.Field.TheVariants.{Plain, Signed, Flag, WeekNumber, Wide, Givei, Givd, Byte}
@@ -22,14 +23,21 @@ use Rattle.message.specs.declared.Field.TheVariants.{Plain, Signed, Flag, WeekNu
 abbrev pub byte_at : Beside → ℕ → ℕ
 byte_at b k = pick (eqb k 27) (at b.bits 27 / 16) (at b.bits k)
 
+-- the GIVEIs and the GIVDs of type 5's pairs
+abbrev pub giveis : Beside → List ℕ
+giveis b = map (λ p. p.givei) b.pairs
+
+abbrev pub givds : Beside → List ℕ
+givds b = map (λ p. p.givd) b.pairs
+
 abbrev pub number_of : Beside → Field → ℤ
 number_of b (Plain n) = pos n
 number_of b (Signed z) = z
 number_of b (Flag f) = pos (pick f 1 0)
 number_of b (WeekNumber w) = pos w.0
 number_of b (Wide n) = pos n
-number_of b (Givei k) = pos (at b.givei k)
-number_of b (Givd k) = pos (at b.givd k)
+number_of b (Givei k) = pos (at (giveis b) k)
+number_of b (Givd k) = pos (at (givds b) k)
 number_of b (Byte k) = pos (byte_at b k)
 
 abbrev pub nth : List ℤ → ℕ → ℤ
@@ -315,12 +323,14 @@ list_of (suc n) f = f 0 ∷ list_of n (λ i. f (suc i))
 abbrev pub pair_fields : List Field
 pair_fields = list_of 30 (λ i. pick (eqb (i % 2) 0) (Givei (i / 2)) (Givd (i / 2)))
 
+abbrev pub no_pair : Pair
+no_pair = record { givei = 0; givd = 0 }
+
 abbrev pub pairs_of : View → Beside
 pairs_of t =
     record {
       bits = replicate 28 0;
-      givei = build 15 (λ i. t.nibble (9 + 2 * i));
-      givd = build 15 (λ i. t.short (10 + 2 * i));
+      pairs = list_of 15 (λ i. record { givei = t.nibble (9 + 2 * i); givd = t.short (10 + 2 * i) });
     }
 
 -- the 220 bits of a message
@@ -331,12 +341,11 @@ abbrev pub data_of : View → Beside
 data_of t =
     record {
       bits = build 28 (λ i. pick (eqb i 27) (t.nibble 34 * 16) (t.byte (7 + i)));
-      givei = replicate 15 0;
-      givd = replicate 15 0;
+      pairs = replicate 15 no_pair;
     }
 
 abbrev pub nothing : Beside
-nothing = record { bits = replicate 28 0; givei = replicate 15 0; givd = replicate 15 0 }
+nothing = record { bits = replicate 28 0; pairs = replicate 15 no_pair }
 
 abbrev pub iono_grid_fields : IonoGrid → List Field
 iono_grid_fields c = Plain c.mask ∷ Plain c.region ∷ (pair_fields ++ (Plain c.iodi ∷ Plain c.spare ∷ []))

@@ -11,7 +11,7 @@ use Rattle.message.specs.declared.Beside.{Beside}
 use Rattle.message.specs.declared.Field.{Field}
 use Rattle.message.specs.declared.Field.TheVariants as field
 use Rattle.message.specs.declared.Field.TheVariants.{Plain, Flag, WeekNumber, Wide, Givei, Givd, Byte}
-use Rattle.message.specs.Numbers.{View, slot_of, number_of, byte_at}
+use Rattle.message.specs.Numbers.{View, slot_of, number_of, giveis, givds, byte_at}
 
 -- a number as each sort of field: by its 32 lowest bits, and as a signed one
 abbrev pub plain_at : List ℕ → ℕ → ℕ
@@ -60,8 +60,8 @@ Good b (field.Signed z) = mag z < 2 ^ 63
 Good b (Flag f) = Unit {0}
 Good b (WeekNumber w) = w.0 < 2 ^ 64
 Good b (Wide n) = n < 2 ^ 64
-Good b (Givei k) = at b.givei k < 2 ^ 64
-Good b (Givd k) = at b.givd k < 2 ^ 64
+Good b (Givei k) = at (giveis b) k < 2 ^ 64
+Good b (Givd k) = at (givds b) k < 2 ^ 64
 Good b (Byte k) = byte_at b k < 2 ^ 64
 
 -- the patterns of the fields' numbers, and 0 behind them

@@ -12,7 +12,7 @@ use Rattle.message.specs.declared.Record.TheVariants as case
 use Rattle.message.specs.declared.Beside.{Beside}
 use Rattle.message.specs.declared.Entry.{Entry}
 use Rattle.message.specs.declared.Field.{Field}
-use Rattle.message.specs.Numbers.{number_of, slot_id, head_fields, message_fields, subframe1_fields, subframe2_fields, iono_grid_fields, almanac_fields}
+use Rattle.message.specs.Numbers.{number_of, giveis, givds, slot_id, head_fields, message_fields, subframe1_fields, subframe2_fields, iono_grid_fields, almanac_fields}
 use Rattle.message.specs.Numbers.{time_offsets_fields, earth_iono_fields, data_fields, View, view_of, subframe1_of, subframe2_of, iono_grid_of}
 use Rattle.message.specs.Numbers.{almanac_of, time_offsets_of, earth_iono_of, null_of, unread_of, pairs_of, data_of, nothing}
 
@@ -183,10 +183,10 @@ used_by layout.Data = bits
 -- the bits and numbers beside a record that its case doesn't use are 0. (The tests of lengths hold of every Beside that code can make; with them
 -- `record_back` holds of any lists.)
 abbrev pub unused_zero : Use → Beside → Bool
-unused_zero none b = both (zeros? 28 b.bits) (both (zeros? 15 b.givei) (zeros? 15 b.givd))
-unused_zero pairs b = both (zeros? 28 b.bits) (both (eqb (length b.givei) 15) (eqb (length b.givd) 15))
+unused_zero none b = both (zeros? 28 b.bits) (both (zeros? 15 (giveis b)) (zeros? 15 (givds b)))
+unused_zero pairs b = both (zeros? 28 b.bits) (both (eqb (length (giveis b)) 15) (eqb (length (givds b)) 15))
 unused_zero bits b =
-    both (both (eqb (length b.bits) 28) (eqb (at b.bits 27 % 16) 0)) (both (zeros? 15 b.givei) (zeros? 15 b.givd))
+    both (both (eqb (length b.bits) 28) (eqb (at b.bits 27 % 16) 0)) (both (zeros? 15 (giveis b)) (zeros? 15 (givds b)))
 
 -- the same, but 293 if only an unused bit or number beside the record is not 0
 unfoldable pub fault_of : Record → Beside → ℕ

@@ -2,9 +2,9 @@
 #![tactic(auto)]
 
 ghost use Rattle.std.specs.Prelude.{◌≡◌};
-ghost use Rattle.message.specs.Numbers.{slot_id};
-ghost use Rattle.message.specs.Records.{from_body, to_body, fault_of, id_refused, id_taken, head_in, id_of, subframe_of, message_id_of, layout_of, layout_by, message_layout, numbers_of};
-ghost use Rattle.fields.specs.Patterns.{patterns};
+ghost use Rattle.message.specs.Numbers.{slot_id, nothing};
+ghost use Rattle.message.specs.Records.{alone, from_body, to_body, fault_of, id_refused, head_in, id_of, subframe_of, message_id_of, layout_of, layout_by, message_layout, numbers_of};
+ghost use Rattle.fields.specs.Patterns.{patterns, unless_0};
 
 use fields::Layout;
 use weektime::{Towc, Week};
@@ -25,7 +25,7 @@ pub struct Head {
 }
 
 // Which of subframes 3 and 4 a message was.
-#[derive(Clone, Copy)]
+#[derive(Clone, Copy, Debug, PartialEq, Eq)]
 pub enum Slot {
     Subframe3,
     Subframe4,
@@ -183,13 +183,25 @@ pub enum Record {
     Unread(Unread),
 }
 
-// What needs an array: 220 bits, first bit highest, the low four bits of the last byte unused; and type 5's pairs. 0 where the case doesn't use it.
-#[derive(Clone, Copy)]
+// One of type 5's pairs.
+#[derive(Clone, Copy, Debug, Default, PartialEq, Eq)]
+pub struct Pair {
+    pub givei: u8,
+    pub givd: u16,
+}
+
+const NO_PAIR: Pair = Pair { givei: 0, givd: 0 };
+
+// What needs an array: 220 bits, first bit highest, the low four bits of the last byte unused; and type 5's pairs. It stands apart from the record,
+// of which some calls speak alone, and is 0 where the case doesn't use it: `fault` tells `UNUSED` of what isn't.
+#[derive(Clone, Copy, Debug, Default, PartialEq, Eq)]
 pub struct Beside {
     pub bits: [u8; 28],
-    pub givei: [u8; 15],
-    pub givd: [u16; 15],
+    pub pairs: [Pair; 15],
 }
+
+// What `fault` tells if only an unused bit or number is not 0.
+pub const UNUSED: u16 = 293;
 
 // A record and what stands beside it.
 #[derive(Clone, Copy)]
@@ -211,34 +223,178 @@ enum Field {
     Byte(usize),
 }
 
-// Which rows the body of a record has.
-pub fn layout(record: Record) -> Layout
-    ensures { result ≡ layout_of «record» }
-{
-    match record {
-        Record::Subframe1(_) => Layout::Subframe1,
-        Record::Subframe2(_) => Layout::Subframe2,
-        Record::IonoGrid(_) => Layout::IonoGrid,
-        Record::Almanac(_) => Layout::Almanac,
-        Record::GpsTime(_) => Layout::TimeOffsets,
-        Record::EarthIono(_) => Layout::EarthIono,
-        Record::GnssTime(_) => Layout::TimeOffsets,
-        Record::Null(_) => Layout::Data,
-        Record::Unread(_) => Layout::Data,
+impl Slot {
+    // Its subframe ID.
+    fn id(self) -> u32
+        ensures { result ≡ slot_id self }
+    {
+        match self {
+            Slot::Subframe3 => 2,
+            Slot::Subframe4 => 3,
+        }
     }
 }
 
-// The layout of a body with these IDs.
+impl Record {
+    // Which rows its body has.
+    pub fn layout(self) -> Layout
+        ensures { result ≡ layout_of self }
+    {
+        match self {
+            Record::Subframe1(_) => Layout::Subframe1,
+            Record::Subframe2(_) => Layout::Subframe2,
+            Record::IonoGrid(_) => Layout::IonoGrid,
+            Record::Almanac(_) => Layout::Almanac,
+            Record::EarthIono(_) => Layout::EarthIono,
+            Record::GpsTime(_) | Record::GnssTime(_) => Layout::TimeOffsets,
+            Record::Null(_) | Record::Unread(_) => Layout::Data,
+        }
+    }
+
+    // What every record keeps.
+    pub fn head(self) -> Head
+        ensures { result ≡ head_in self }
+    {
+        match self {
+            Record::Subframe1(c) => c.head,
+            Record::Subframe2(c) => c.head,
+            Record::IonoGrid(c) => c.head,
+            Record::Almanac(c) => c.head,
+            Record::GpsTime(c) | Record::GnssTime(c) => c.head,
+            Record::EarthIono(c) => c.head,
+            Record::Null(c) => c.head,
+            Record::Unread(c) => c.head,
+        }
+    }
+
+    pub fn towc(self) -> Towc
+        ensures { result ≡ (head_in self).towc }
+    {
+        self.head().towc
+    }
+
+    // The subframe ID, 0 to 3.
+    fn id(self) -> u32
+        ensures { result ≡ id_of self }
+    {
+        let slot = match self {
+            Record::Subframe1(_) => return 0,
+            Record::Subframe2(_) => return 1,
+            Record::IonoGrid(c) => c.slot,
+            Record::Almanac(c) => c.slot,
+            Record::GpsTime(c) | Record::GnssTime(c) => c.slot,
+            Record::EarthIono(c) => c.slot,
+            Record::Null(c) => c.slot,
+            Record::Unread(c) => c.slot,
+        };
+        slot.id()
+    }
+
+    // The subframe, 1 to 4.
+    pub fn subframe(self) -> u32
+        ensures { result ≡ subframe_of self }
+    {
+        self.id() + 1
+    }
+
+    // The message ID, 0 for subframes 1 and 2.
+    pub fn message_id(self) -> u32
+        ensures { result ≡ message_id_of self }
+    {
+        match self {
+            Record::Subframe1(_) | Record::Subframe2(_) | Record::Null(_) => 0,
+            Record::IonoGrid(_) => 5,
+            Record::Almanac(_) => 7,
+            Record::GpsTime(_) => 9,
+            Record::EarthIono(_) => 11,
+            Record::GnssTime(_) => 26,
+            Record::Unread(c) => c.id,
+        }
+    }
+
+    // Whether it is an unread message with the ID of another case, or with one above 63.
+    pub fn id_refused(self) -> bool
+        ensures { result ≡ id_refused self }
+    {
+        let Record::Unread(c) = self else {
+            return false;
+        };
+        matches!(c.id, 0 | 5 | 7 | 9 | 11 | 26) || 63 < c.id
+    }
+}
+
+impl Beside {
+    // What stands beside a record that uses none of it.
+    pub fn nothing() -> Self
+        ensures { result ≡ nothing }
+    {
+        Self::default()
+    }
+}
+
+// A record with nothing beside it.
+impl From<Record> for Entry {
+    ghost from_gives = { λ r e. e ≡ alone r };
+
+    fn from(only: Record) -> Self {
+        Self {
+            record: only,
+            beside: Beside::nothing(),
+        }
+    }
+}
+
+impl Entry {
+    // The record of a body, and what stands beside it. It is read as data first, for the two IDs, which every message has at the same places (of
+    // subframes 1 and 2 number 6 is no ID and is not used); then by its own layout.
+    pub fn parse(body: &[u8; 262]) -> Self
+        ensures { result ≡ from_body body.now }
+    {
+        let ids = fields::read(body, Layout::Data);
+        let subframe = ids[4];
+        let id = ids[6];
+        let numbers = fields::read(body, layout_by(subframe, id));
+        records::entry(subframe, id, &sorts::View(&numbers))
+    }
+
+    // By `numbers_of`, here and in `fault`: `numbers` doesn't say that each number is within its field's type, which these two proofs need.
+    #[tactic(auto, using(crate::proofs::Laying::laid_body))]
+    pub fn body(self) -> [u8; 262]
+        ensures { result ≡ to_body self.record self.beside }
+    {
+        fields::write(self.record.layout(), numbers::numbers_of(self))
+    }
+
+    // Its numbers in the table's order, as patterns, and 0 behind them.
+    pub fn numbers(self) -> [u64; 42]
+        ensures { result ≡ patterns (numbers_of self.record self.beside) }
+    {
+        numbers::numbers_of(self)
+    }
+
+    // The first bit of the lowest field that is outside its width; `UNUSED` if only an unused bit or number is not 0.
+    pub fn fault(self) -> Option<u16>
+        ensures { result ≡ unless_0 (fault_of self.record self.beside) }
+    {
+        let layout = self.record.layout();
+        match fields::fault(layout, numbers::numbers_of(self)) {
+            Some(bit) => Some(bit as u16),
+            None => (!unused::unused_zero(layout, &self.beside)).then_some(UNUSED),
+        }
+    }
+}
+
+// The layout of a body with these IDs. A switch of its own beside `records::entry`: the numbers are read by the layout, and the entry is made of them;
+// and two IDs may have one layout.
+#[tactic(auto, unfolding(crate::specs::Records::layout_by))]
 pub fn layout_by(subframe: u64, id: u64) -> Layout
     ensures { result ≡ layout_by subframe id }
 {
-    if subframe == 0 {
-        return Layout::Subframe1;
+    match subframe {
+        0 => Layout::Subframe1,
+        1 => Layout::Subframe2,
+        _ => message_layout(id),
     }
-    if subframe == 1 {
-        return Layout::Subframe2;
-    }
-    message_layout(id)
 }
 
 fn message_layout(id: u64) -> Layout
@@ -247,177 +403,8 @@ fn message_layout(id: u64) -> Layout
     match id {
         5 => Layout::IonoGrid,
         7 => Layout::Almanac,
-        9 => Layout::TimeOffsets,
+        9 | 26 => Layout::TimeOffsets,
         11 => Layout::EarthIono,
-        26 => Layout::TimeOffsets,
         _ => Layout::Data,
-    }
-}
-
-// What every record keeps.
-pub fn head_of(record: Record) -> Head
-    ensures { result ≡ head_in «record» }
-{
-    match record {
-        Record::Subframe1(c) => c.head,
-        Record::Subframe2(c) => c.head,
-        Record::IonoGrid(c) => c.head,
-        Record::Almanac(c) => c.head,
-        Record::GpsTime(c) => c.head,
-        Record::EarthIono(c) => c.head,
-        Record::GnssTime(c) => c.head,
-        Record::Null(c) => c.head,
-        Record::Unread(c) => c.head,
-    }
-}
-
-fn slot_id(slot: Slot) -> u32
-    ensures { result ≡ slot_id slot }
-{
-    match slot {
-        Slot::Subframe3 => 2,
-        Slot::Subframe4 => 3,
-    }
-}
-
-// The subframe ID, 0 to 3.
-fn id_of(record: Record) -> u32
-    ensures { result ≡ id_of «record» }
-{
-    match record {
-        Record::Subframe1(_) => 0,
-        Record::Subframe2(_) => 1,
-        Record::IonoGrid(c) => {
-            let slot = c.slot;
-            slot_id(slot)
-        }
-        Record::Almanac(c) => {
-            let slot = c.slot;
-            slot_id(slot)
-        }
-        Record::GpsTime(c) => {
-            let slot = c.slot;
-            slot_id(slot)
-        }
-        Record::EarthIono(c) => {
-            let slot = c.slot;
-            slot_id(slot)
-        }
-        Record::GnssTime(c) => {
-            let slot = c.slot;
-            slot_id(slot)
-        }
-        Record::Null(c) => {
-            let slot = c.slot;
-            slot_id(slot)
-        }
-        Record::Unread(c) => {
-            let slot = c.slot;
-            slot_id(slot)
-        }
-    }
-}
-
-// The subframe, 1 to 4.
-pub fn subframe(record: Record) -> u32
-    ensures { result ≡ subframe_of «record» }
-{
-    id_of(record) + 1
-}
-
-// The message ID, 0 for subframes 1 and 2.
-pub fn message_id(record: Record) -> u32
-    ensures { result ≡ message_id_of «record» }
-{
-    match record {
-        Record::Subframe1(_) => 0,
-        Record::Subframe2(_) => 0,
-        Record::IonoGrid(_) => 5,
-        Record::Almanac(_) => 7,
-        Record::GpsTime(_) => 9,
-        Record::EarthIono(_) => 11,
-        Record::GnssTime(_) => 26,
-        Record::Null(_) => 0,
-        Record::Unread(c) => c.id,
-    }
-}
-
-pub fn towc(record: Record) -> Towc
-    ensures { result ≡ (head_in «record»).towc }
-{
-    let head = head_of(record);
-    head.towc
-}
-
-// Whether an unread message has the ID of another case, or one above 63.
-fn id_taken(id: u32) -> bool
-    ensures { result ≡ id_taken id }
-{
-    match id {
-        0 => true,
-        5 => true,
-        7 => true,
-        9 => true,
-        11 => true,
-        26 => true,
-        _ => 63 < id,
-    }
-}
-
-pub fn id_refused(record: Record) -> bool
-    ensures { result ≡ id_refused «record» }
-{
-    match record {
-        Record::Subframe1(_) => false,
-        Record::Subframe2(_) => false,
-        Record::IonoGrid(_) => false,
-        Record::Almanac(_) => false,
-        Record::GpsTime(_) => false,
-        Record::EarthIono(_) => false,
-        Record::GnssTime(_) => false,
-        Record::Null(_) => false,
-        Record::Unread(c) => id_taken(c.id),
-    }
-}
-
-// The body of a record and of what stands beside it.
-pub fn body(record: Record, beside: Beside) -> [u8; 262]
-    ensures { result ≡ to_body «record» beside }
-{
-    fields::write(layout(record), numbers::numbers_of(record, beside))
-}
-
-// The numbers of a record and of what stands beside it, in the table's order, as patterns, and 0 behind them.
-pub fn table_numbers(record: Record, beside: Beside) -> [u64; 42]
-    ensures { result ≡ patterns (numbers_of «record» beside) }
-{
-    numbers::numbers_of(record, beside)
-}
-
-// The record of a body, and what stands beside it. It is read as data first, for the two IDs, which every message has at the same places (of
-// subframes 1 and 2 number 6 is no ID and is not used); then by its own layout.
-pub fn parse(body: &[u8; 262]) -> Entry
-    ensures { result ≡ from_body body.now }
-{
-    let ids = fields::read(body, Layout::Data);
-    let subframe = ids[4];
-    let id = ids[6];
-    let numbers = fields::read(body, layout_by(subframe, id));
-    records::entry(subframe, id, numbers)
-}
-
-// The first bit of the lowest field that is outside its width; 293 if only an unused bit or number is not 0; else 0.
-pub fn fault(record: Record, beside: Beside) -> u16
-    ensures { result ≡ fault_of «record» beside }
-{
-    let layout = layout(record);
-    let first = fields::fault(layout, numbers::numbers_of(record, beside));
-    if first != 0 {
-        return first as u16;
-    }
-    if unused::unused_zero(layout, beside) {
-        0
-    } else {
-        293
     }
 }

@@ -1,91 +1,79 @@
 // From a record to the numbers of its body.
-ghost use Rattle.std.specs.Prelude.{◌≡◌, ◌++◌};
-ghost use Rattle.bits.specs.Lists.{at, pick};
+ghost use Rattle.std.specs.Prelude.{◌≡◌, ◌≤◌, ◌++◌, length};
+ghost use Rattle.bits.specs.Lists.{at};
 ghost use Rattle.fields.specs.Patterns.{pattern};
-ghost use Rattle.message.specs.Numbers.{number_of, byte_at, head_fields, message_fields, subframe1_fields, subframe2_fields, iono_grid_fields, almanac_fields, time_offsets_fields, earth_iono_fields, data_fields};
+ghost use Rattle.message.specs.Numbers.{number_of, giveis, givds, byte_at, head_fields, message_fields, subframe1_fields, subframe2_fields, iono_grid_fields, almanac_fields, time_offsets_fields, earth_iono_fields, data_fields};
 ghost use Rattle.message.specs.Records.{own_fields, fields_of};
 ghost use Rattle.message.specs.Raw.{own, Good, Laid};
 
 use crate::{
-    Almanac, Beside, EarthIono, Field, Head, IonoGrid, Record, Subframe1, Subframe2, TimeOffsets,
+    Almanac, Beside, EarthIono, Entry, Field, Head, IonoGrid, NO_PAIR, Pair, Record, Subframe1,
+    Subframe2, TimeOffsets,
 };
-use weektime::Week;
 
-fn flag(set: bool) -> u64
-    ensures { result ≡ pick set 1 0 }
-{
-    if set { 1 } else { 0 }
-}
-
-fn week(w: Week) -> u64
-    ensures { result ≡ w.0 }
-{
-    w.number() as u64
-}
-
-// Numbers beside a record, by their places.
-fn givei(beside: Beside, k: usize) -> u64
-    ensures { result ≡ at beside.givei k }
-{
-    let givei = beside.givei;
-    if k < 15 { givei[k] as u64 } else { 0 }
-}
-
-fn givd(beside: Beside, k: usize) -> u64
-    ensures { result ≡ at beside.givd k }
-{
-    let givd = beside.givd;
-    if k < 15 { givd[k] as u64 } else { 0 }
-}
-
-fn byte(beside: Beside, k: usize) -> u64
-    ensures { result ≡ byte_at beside k }
-{
-    let bits = beside.bits;
-    if k < 27 {
-        return bits[k] as u64;
+impl Beside {
+    // The pair at a place, and zeros past the end.
+    fn pair(&self, k: usize) -> Pair
+        ensures givei { result.givei ≡ at (giveis self.now) k }
+        ensures givd { result.givd ≡ at (givds self.now) k }
+    {
+        self.pairs.get(k).copied().unwrap_or(NO_PAIR)
     }
-    if k == 27 { bits[27] as u64 / 16 } else { 0 }
+
+    // The byte at a place, of which the last has four bits.
+    fn byte(&self, k: usize) -> u8
+        ensures { result ≡ byte_at self.now k }
+    {
+        let byte = self.bits.get(k).copied().unwrap_or(0);
+        if k == 27 { byte / 16 } else { byte }
+    }
 }
 
 // A field's number as a pattern.
-fn number(field: Field, beside: Beside) -> u64
-    ensures value { result ≡ pattern (number_of beside field) }
-    ensures good { Good beside field }
+fn number(field: Field, beside: &Beside) -> u64
+    ensures value { result ≡ pattern (number_of beside.now field) }
+    ensures good { Good beside.now field }
 {
     match field {
-        Field::Plain(n) => n as u64,
+        Field::Plain(n) => u64::from(n),
         Field::Signed(x) => fields::pattern(x),
-        Field::Flag(set) => flag(set),
-        Field::WeekNumber(w) => week(w),
+        Field::Flag(set) => u64::from(set),
+        Field::WeekNumber(w) => u64::from(w.number()),
         Field::Wide(n) => n,
-        Field::Givei(k) => givei(beside, k),
-        Field::Givd(k) => givd(beside, k),
-        Field::Byte(k) => byte(beside, k),
+        Field::Givei(k) => u64::from(beside.pair(k).givei),
+        Field::Givd(k) => u64::from(beside.pair(k).givd),
+        Field::Byte(k) => u64::from(beside.byte(k)),
     }
 }
 
-// The numbers of the head's fields and of those behind it.
-fn lay(lead: [Field; 6], own: [Field; 36], beside: Beside) -> [u64; 42]
-    ensures { Laid (lead ++ own) beside result }
+// The numbers of the head's fields and of those behind it. By index, since two arrays are read as one and a third is written.
+fn lay(lead: [Field; 6], own: [Field; 36], beside: &Beside) -> [u64; 42]
+    ensures { Laid (lead ++ own) beside.now result }
 {
-    let mut numbers = [0u64; 42];
-    let mut i = 0;
-    while i < 42 {
+    let mut numbers = [0; 42];
+    for i in 0..42 {
         let field = if i < 6 { lead[i] } else { own[i - 6] };
         numbers[i] = number(field, beside);
-        i += 1;
     }
     numbers
+}
+
+// A kind's own fields, and zeros behind them.
+fn padded(fields: &[Field]) -> [Field; 36]
+    requires { length fields.now ≤ 36 }
+    ensures { result ≡ own fields.now }
+{
+    let mut all = [Field::Plain(0); 36];
+    all[..fields.len()].copy_from_slice(fields);
+    all
 }
 
 fn head_fields(head: Head, id: u32) -> [Field; 6]
     ensures { result ≡ head_fields head id }
 {
-    let towc = head.towc;
     [
         Field::Plain(head.tlm),
-        Field::Plain(towc.count()),
+        Field::Plain(head.towc.count()),
         Field::Flag(head.alert),
         Field::Flag(head.auto_nav),
         Field::Plain(id),
@@ -96,10 +84,8 @@ fn head_fields(head: Head, id: u32) -> [Field; 6]
 fn subframe1_fields(c: Subframe1) -> [Field; 36]
     ensures { result ≡ own (subframe1_fields c) }
 {
-    let wn = c.wn;
-    let none = Field::Plain(0);
-    [
-        Field::WeekNumber(wn),
+    padded(&[
+        Field::WeekNumber(c.wn),
         Field::Signed(c.af0),
         Field::Signed(c.af1),
         Field::Signed(c.af2),
@@ -119,30 +105,13 @@ fn subframe1_fields(c: Subframe1) -> [Field; 36]
         Field::Signed(c.crs),
         Field::Signed(c.idot),
         Field::Plain(c.spare),
-        none,
-        none,
-        none,
-        none,
-        none,
-        none,
-        none,
-        none,
-        none,
-        none,
-        none,
-        none,
-        none,
-        none,
-        none,
-        none,
-    ]
+    ])
 }
 
 fn subframe2_fields(c: Subframe2) -> [Field; 36]
     ensures { result ≡ own (subframe2_fields c) }
 {
-    let none = Field::Plain(0);
-    [
+    padded(&[
         Field::Signed(c.m0),
         Field::Plain(c.toe),
         Field::Plain(c.e),
@@ -152,44 +121,15 @@ fn subframe2_fields(c: Subframe2) -> [Field; 36]
         Field::Signed(c.omega_dot),
         Field::Signed(c.i0),
         Field::Plain(c.spare),
-        none,
-        none,
-        none,
-        none,
-        none,
-        none,
-        none,
-        none,
-        none,
-        none,
-        none,
-        none,
-        none,
-        none,
-        none,
-        none,
-        none,
-        none,
-        none,
-        none,
-        none,
-        none,
-        none,
-        none,
-        none,
-        none,
-        none,
-    ]
+    ])
 }
 
-fn almanac_fields(c: Almanac) -> [Field; 36]
-    ensures { result ≡ own (message_fields 7 (almanac_fields c) c.prn) }
+fn almanac_fields(id: u32, c: Almanac) -> [Field; 36]
+    ensures { result ≡ own (message_fields id (almanac_fields c) c.prn) }
 {
-    let wna = c.wna;
-    let none = Field::Plain(0);
-    [
-        Field::Plain(7),
-        Field::WeekNumber(wna),
+    padded(&[
+        Field::Plain(id),
+        Field::WeekNumber(c.wna),
         Field::Plain(c.e),
         Field::Plain(c.toa),
         Field::Signed(c.i0),
@@ -204,82 +144,39 @@ fn almanac_fields(c: Almanac) -> [Field; 36]
         Field::Signed(c.isc),
         Field::Plain(c.spare),
         Field::Plain(c.prn),
-        none,
-        none,
-        none,
-        none,
-        none,
-        none,
-        none,
-        none,
-        none,
-        none,
-        none,
-        none,
-        none,
-        none,
-        none,
-        none,
-        none,
-        none,
-        none,
-        none,
-    ]
+    ])
 }
 
 fn time_offsets_fields(id: u32, c: TimeOffsets) -> [Field; 36]
     ensures { result ≡ own (message_fields id (time_offsets_fields c) c.prn) }
 {
-    let wn_utc = c.wn_utc;
-    let wn_leap = c.wn_leap;
-    let wn_gnss = c.wn_gnss;
-    let none = Field::Plain(0);
-    [
+    padded(&[
         Field::Plain(id),
         Field::Signed(c.a0_utc),
         Field::Signed(c.a1_utc),
         Field::Signed(c.a2_utc),
         Field::Signed(c.leap_seconds),
         Field::Plain(c.t_utc),
-        Field::WeekNumber(wn_utc),
-        Field::WeekNumber(wn_leap),
+        Field::WeekNumber(c.wn_utc),
+        Field::WeekNumber(c.wn_leap),
         Field::Plain(c.day_leap),
         Field::Signed(c.leap_seconds_next),
         Field::Signed(c.a0),
         Field::Signed(c.a1),
         Field::Signed(c.a2),
         Field::Plain(c.t_gnss),
-        Field::WeekNumber(wn_gnss),
+        Field::WeekNumber(c.wn_gnss),
         Field::Plain(c.gnss_id),
         Field::Wide(c.spare),
         Field::Plain(c.prn),
-        none,
-        none,
-        none,
-        none,
-        none,
-        none,
-        none,
-        none,
-        none,
-        none,
-        none,
-        none,
-        none,
-        none,
-        none,
-        none,
-        none,
-        none,
-    ]
+    ])
 }
 
-fn earth_iono_fields(c: EarthIono) -> [Field; 36]
-    ensures { result ≡ own (message_fields 11 (earth_iono_fields c) c.prn) }
+fn earth_iono_fields(id: u32, c: EarthIono) -> [Field; 36]
+    ensures { result ≡ own (message_fields id (earth_iono_fields c) c.prn) }
 {
-    let none = Field::Plain(0);
-    [
-        Field::Plain(11),
+    padded(&[
+        Field::Plain(id),
         Field::Plain(c.t_eop),
         Field::Signed(c.pm_x),
         Field::Signed(c.pm_x_dot),
@@ -297,32 +194,15 @@ fn earth_iono_fields(c: EarthIono) -> [Field; 36]
         Field::Signed(c.beta3),
         Field::Plain(c.spare),
         Field::Plain(c.prn),
-        none,
-        none,
-        none,
-        none,
-        none,
-        none,
-        none,
-        none,
-        none,
-        none,
-        none,
-        none,
-        none,
-        none,
-        none,
-        none,
-        none,
-        none,
-    ]
+    ])
 }
 
-fn iono_grid_fields(c: IonoGrid) -> [Field; 36]
-    ensures { result ≡ own (message_fields 5 (iono_grid_fields c) c.prn) }
+// The fields of type 5, and the bytes of a message below, are listed one by one, as the definitions list them: so the check finds them alike at once.
+fn iono_grid_fields(id: u32, c: IonoGrid) -> [Field; 36]
+    ensures { result ≡ own (message_fields id (iono_grid_fields c) c.prn) }
 {
-    [
-        Field::Plain(5),
+    padded(&[
+        Field::Plain(id),
         Field::Plain(c.mask),
         Field::Plain(c.region),
         Field::Givei(0),
@@ -358,14 +238,13 @@ fn iono_grid_fields(c: IonoGrid) -> [Field; 36]
         Field::Plain(c.iodi),
         Field::Plain(c.spare),
         Field::Plain(c.prn),
-    ]
+    ])
 }
 
 fn data_fields(id: u32, prn: u32) -> [Field; 36]
     ensures { result ≡ own (message_fields id data_fields prn) }
 {
-    let none = Field::Plain(0);
-    [
+    padded(&[
         Field::Plain(id),
         Field::Byte(0),
         Field::Byte(1),
@@ -396,36 +275,31 @@ fn data_fields(id: u32, prn: u32) -> [Field; 36]
         Field::Byte(26),
         Field::Byte(27),
         Field::Plain(prn),
-        none,
-        none,
-        none,
-        none,
-        none,
-        none,
-    ]
+    ])
 }
 
 // The fields behind bit 30.
 fn own_fields(record: Record) -> [Field; 36]
     ensures { result ≡ own (own_fields «record») }
 {
+    let id = record.message_id();
     match record {
         Record::Subframe1(c) => subframe1_fields(c),
         Record::Subframe2(c) => subframe2_fields(c),
-        Record::IonoGrid(c) => iono_grid_fields(c),
-        Record::Almanac(c) => almanac_fields(c),
-        Record::GpsTime(c) => time_offsets_fields(9, c),
-        Record::EarthIono(c) => earth_iono_fields(c),
-        Record::GnssTime(c) => time_offsets_fields(26, c),
-        Record::Null(c) => data_fields(0, c.prn),
-        Record::Unread(c) => data_fields(c.id, c.prn),
+        Record::IonoGrid(c) => iono_grid_fields(id, c),
+        Record::Almanac(c) => almanac_fields(id, c),
+        Record::EarthIono(c) => earth_iono_fields(id, c),
+        Record::GpsTime(c) | Record::GnssTime(c) => time_offsets_fields(id, c),
+        Record::Null(c) => data_fields(id, c.prn),
+        Record::Unread(c) => data_fields(id, c.prn),
     }
 }
 
 // The numbers of a record and of what stands beside it.
-pub fn numbers_of(record: Record, beside: Beside) -> [u64; 42]
-    ensures { Laid (fields_of «record») beside result }
+pub fn numbers_of(entry: Entry) -> [u64; 42]
+    ensures { Laid (fields_of entry.«record») entry.beside result }
 {
-    let lead = head_fields(crate::head_of(record), crate::id_of(record));
-    lay(lead, own_fields(record), beside)
+    let record = entry.record;
+    let lead = head_fields(record.head(), record.id());
+    lay(lead, own_fields(record), &entry.beside)
 }

@@ -1,274 +1,249 @@
 // From the numbers of a body to its record.
-ghost use Rattle.std.specs.Prelude.{◌≡◌};
-ghost use Rattle.message.specs.Numbers.{subframe1_of, subframe2_of, iono_grid_of, almanac_of, time_offsets_of, earth_iono_of, null_of, unread_of, pairs_of, data_of, nothing};
+ghost use Rattle.std.specs.Prelude.{◌≡◌, ◌+◌, ◌*◌, ◌<◌, eqb};
+ghost use Rattle.bits.specs.Lists.{pick};
+ghost use Rattle.message.specs.Numbers.{subframe1_of, subframe2_of, iono_grid_of, almanac_of, time_offsets_of, earth_iono_of, null_of, unread_of, pairs_of, data_of};
 ghost use Rattle.message.specs.Records.{message_by, entry_by};
 ghost use Rattle.message.specs.Raw.{look};
 
-use crate::sorts::{flag_at, head_of, plain_at, signed_at, slot_of, week_at, wide_of};
+use crate::sorts::View;
 use crate::{
-    Almanac, Beside, EarthIono, Entry, IonoGrid, Null, Record, Subframe1, Subframe2, TimeOffsets,
-    Unread,
+    Almanac, Beside, EarthIono, Entry, IonoGrid, Null, Pair, Record, Subframe1, Subframe2,
+    TimeOffsets, Unread,
 };
+use std::array;
 
-fn subframe1_of(t: [u64; 42]) -> Subframe1
-    ensures { result ≡ subframe1_of (look t) }
+fn subframe1_of(t: &View) -> Subframe1
+    ensures { result ≡ subframe1_of (look t.now.0.now) }
 {
     Subframe1 {
-        head: head_of(t),
-        wn: week_at(t, 6),
-        af0: signed_at(t, 7),
-        af1: signed_at(t, 8),
-        af2: signed_at(t, 9),
-        ura: plain_at(t, 10),
-        toc: plain_at(t, 11),
-        tgd: signed_at(t, 12),
-        delta_n: signed_at(t, 13),
-        iodec: plain_at(t, 14),
-        reserved: plain_at(t, 15),
-        l5_flag: flag_at(t, 16),
-        s_flag: flag_at(t, 17),
-        cuc: signed_at(t, 18),
-        cus: signed_at(t, 19),
-        cic: signed_at(t, 20),
-        cis: signed_at(t, 21),
-        crc: signed_at(t, 22),
-        crs: signed_at(t, 23),
-        idot: signed_at(t, 24),
-        spare: plain_at(t, 25),
+        head: t.head(),
+        wn: t.week(6),
+        af0: t.signed(7),
+        af1: t.signed(8),
+        af2: t.signed(9),
+        ura: t.plain(10),
+        toc: t.plain(11),
+        tgd: t.signed(12),
+        delta_n: t.signed(13),
+        iodec: t.plain(14),
+        reserved: t.plain(15),
+        l5_flag: t.flag(16),
+        s_flag: t.flag(17),
+        cuc: t.signed(18),
+        cus: t.signed(19),
+        cic: t.signed(20),
+        cis: t.signed(21),
+        crc: t.signed(22),
+        crs: t.signed(23),
+        idot: t.signed(24),
+        spare: t.plain(25),
     }
 }
 
-fn subframe2_of(t: [u64; 42]) -> Subframe2
-    ensures { result ≡ subframe2_of (look t) }
+fn subframe2_of(t: &View) -> Subframe2
+    ensures { result ≡ subframe2_of (look t.now.0.now) }
 {
     Subframe2 {
-        head: head_of(t),
-        m0: signed_at(t, 6),
-        toe: plain_at(t, 7),
-        e: plain_at(t, 8),
-        root_a: plain_at(t, 9),
-        omega0: signed_at(t, 10),
-        omega: signed_at(t, 11),
-        omega_dot: signed_at(t, 12),
-        i0: signed_at(t, 13),
-        spare: plain_at(t, 14),
+        head: t.head(),
+        m0: t.signed(6),
+        toe: t.plain(7),
+        e: t.plain(8),
+        root_a: t.plain(9),
+        omega0: t.signed(10),
+        omega: t.signed(11),
+        omega_dot: t.signed(12),
+        i0: t.signed(13),
+        spare: t.plain(14),
     }
 }
 
-fn iono_grid_of(t: [u64; 42]) -> IonoGrid
-    ensures { result ≡ iono_grid_of (look t) }
+fn iono_grid_of(t: &View) -> IonoGrid
+    ensures { result ≡ iono_grid_of (look t.now.0.now) }
 {
     IonoGrid {
-        head: head_of(t),
-        slot: slot_of(t),
-        mask: plain_at(t, 7),
-        region: plain_at(t, 8),
-        iodi: plain_at(t, 39),
-        spare: plain_at(t, 40),
-        prn: plain_at(t, 41),
+        head: t.head(),
+        slot: t.slot(),
+        mask: t.plain(7),
+        region: t.plain(8),
+        iodi: t.plain(39),
+        spare: t.plain(40),
+        prn: t.plain(41),
     }
 }
 
-fn almanac_of(t: [u64; 42]) -> Almanac
-    ensures { result ≡ almanac_of (look t) }
+fn almanac_of(t: &View) -> Almanac
+    ensures { result ≡ almanac_of (look t.now.0.now) }
 {
     Almanac {
-        head: head_of(t),
-        slot: slot_of(t),
-        wna: week_at(t, 7),
-        e: plain_at(t, 8),
-        toa: plain_at(t, 9),
-        i0: signed_at(t, 10),
-        omega_dot: signed_at(t, 11),
-        root_a: plain_at(t, 12),
-        omega0: signed_at(t, 13),
-        omega: signed_at(t, 14),
-        m0: signed_at(t, 15),
-        af0: signed_at(t, 16),
-        af1: signed_at(t, 17),
-        prn_almanac: plain_at(t, 18),
-        isc: signed_at(t, 19),
-        spare: plain_at(t, 20),
-        prn: plain_at(t, 21),
+        head: t.head(),
+        slot: t.slot(),
+        wna: t.week(7),
+        e: t.plain(8),
+        toa: t.plain(9),
+        i0: t.signed(10),
+        omega_dot: t.signed(11),
+        root_a: t.plain(12),
+        omega0: t.signed(13),
+        omega: t.signed(14),
+        m0: t.signed(15),
+        af0: t.signed(16),
+        af1: t.signed(17),
+        prn_almanac: t.plain(18),
+        isc: t.signed(19),
+        spare: t.plain(20),
+        prn: t.plain(21),
     }
 }
 
-fn time_offsets_of(t: [u64; 42]) -> TimeOffsets
-    ensures { result ≡ time_offsets_of (look t) }
+fn time_offsets_of(t: &View) -> TimeOffsets
+    ensures { result ≡ time_offsets_of (look t.now.0.now) }
 {
     TimeOffsets {
-        head: head_of(t),
-        slot: slot_of(t),
-        a0_utc: signed_at(t, 7),
-        a1_utc: signed_at(t, 8),
-        a2_utc: signed_at(t, 9),
-        leap_seconds: signed_at(t, 10),
-        t_utc: plain_at(t, 11),
-        wn_utc: week_at(t, 12),
-        wn_leap: week_at(t, 13),
-        day_leap: plain_at(t, 14),
-        leap_seconds_next: signed_at(t, 15),
-        a0: signed_at(t, 16),
-        a1: signed_at(t, 17),
-        a2: signed_at(t, 18),
-        t_gnss: plain_at(t, 19),
-        wn_gnss: week_at(t, 20),
-        gnss_id: plain_at(t, 21),
-        spare: wide_of(t),
-        prn: plain_at(t, 23),
+        head: t.head(),
+        slot: t.slot(),
+        a0_utc: t.signed(7),
+        a1_utc: t.signed(8),
+        a2_utc: t.signed(9),
+        leap_seconds: t.signed(10),
+        t_utc: t.plain(11),
+        wn_utc: t.week(12),
+        wn_leap: t.week(13),
+        day_leap: t.plain(14),
+        leap_seconds_next: t.signed(15),
+        a0: t.signed(16),
+        a1: t.signed(17),
+        a2: t.signed(18),
+        t_gnss: t.plain(19),
+        wn_gnss: t.week(20),
+        gnss_id: t.plain(21),
+        spare: t.wide(22),
+        prn: t.plain(23),
     }
 }
 
-fn earth_iono_of(t: [u64; 42]) -> EarthIono
-    ensures { result ≡ earth_iono_of (look t) }
+fn earth_iono_of(t: &View) -> EarthIono
+    ensures { result ≡ earth_iono_of (look t.now.0.now) }
 {
     EarthIono {
-        head: head_of(t),
-        slot: slot_of(t),
-        t_eop: plain_at(t, 7),
-        pm_x: signed_at(t, 8),
-        pm_x_dot: signed_at(t, 9),
-        pm_y: signed_at(t, 10),
-        pm_y_dot: signed_at(t, 11),
-        d_ut1: signed_at(t, 12),
-        d_ut1_dot: signed_at(t, 13),
-        alpha0: signed_at(t, 14),
-        alpha1: signed_at(t, 15),
-        alpha2: signed_at(t, 16),
-        alpha3: signed_at(t, 17),
-        beta0: signed_at(t, 18),
-        beta1: signed_at(t, 19),
-        beta2: signed_at(t, 20),
-        beta3: signed_at(t, 21),
-        spare: plain_at(t, 22),
-        prn: plain_at(t, 23),
+        head: t.head(),
+        slot: t.slot(),
+        t_eop: t.plain(7),
+        pm_x: t.signed(8),
+        pm_x_dot: t.signed(9),
+        pm_y: t.signed(10),
+        pm_y_dot: t.signed(11),
+        d_ut1: t.signed(12),
+        d_ut1_dot: t.signed(13),
+        alpha0: t.signed(14),
+        alpha1: t.signed(15),
+        alpha2: t.signed(16),
+        alpha3: t.signed(17),
+        beta0: t.signed(18),
+        beta1: t.signed(19),
+        beta2: t.signed(20),
+        beta3: t.signed(21),
+        spare: t.plain(22),
+        prn: t.plain(23),
     }
 }
 
-fn null_of(t: [u64; 42]) -> Null
-    ensures { result ≡ null_of (look t) }
+fn null_of(t: &View) -> Null
+    ensures { result ≡ null_of (look t.now.0.now) }
 {
     Null {
-        head: head_of(t),
-        slot: slot_of(t),
-        prn: plain_at(t, 35),
+        head: t.head(),
+        slot: t.slot(),
+        prn: t.plain(35),
     }
 }
 
-fn unread_of(t: [u64; 42]) -> Unread
-    ensures { result ≡ unread_of (look t) }
+fn unread_of(t: &View) -> Unread
+    ensures { result ≡ unread_of (look t.now.0.now) }
 {
     Unread {
-        head: head_of(t),
-        slot: slot_of(t),
-        id: plain_at(t, 6),
-        prn: plain_at(t, 35),
+        head: t.head(),
+        slot: t.slot(),
+        id: t.plain(6),
+        prn: t.plain(35),
     }
 }
 
-fn nothing_beside() -> Beside
-    ensures { result ≡ nothing }
+// One of type 5's pairs.
+fn pair_at(t: &View, i: usize) -> Pair
+    requires { i < 15 }
+    ensures givei { result.givei ≡ (look t.now.0.now).nibble (9 + 2 * i) }
+    ensures givd { result.givd ≡ (look t.now.0.now).short (10 + 2 * i) }
 {
-    Beside {
-        bits: [0; 28],
-        givei: [0; 15],
-        givd: [0; 15],
+    Pair {
+        givei: (t.wide(9 + 2 * i) % 16) as u8,
+        givd: (t.wide(10 + 2 * i) % 65536) as u16,
     }
 }
 
 // Type 5's pairs.
-fn pairs_of(t: [u64; 42]) -> Beside
-    ensures { result ≡ pairs_of (look t) }
+fn pairs_of(t: &View) -> Beside
+    ensures { result ≡ pairs_of (look t.now.0.now) }
 {
-    let mut givei = [0u8; 15];
-    let mut givd = [0u16; 15];
-    let mut i = 0;
-    while i < 15 {
-        givei[i] = (t[9 + 2 * i] % 16) as u8;
-        givd[i] = (t[10 + 2 * i] % 65536) as u16;
-        i += 1;
-    }
     Beside {
-        bits: [0; 28],
-        givei,
-        givd,
+        pairs: array::from_fn(|i| pair_at(t, i)),
+        ..Beside::nothing()
     }
 }
 
-// The 220 bits of a message, whose last byte has four.
-fn data_of(t: [u64; 42]) -> Beside
-    ensures { result ≡ data_of (look t) }
+// A byte of a message's 220 bits, of which the last has four.
+fn byte_at(t: &View, i: usize) -> u8
+    requires { i < 28 }
+    ensures { result ≡ pick (eqb i 27) ((look t.now.0.now).nibble 34 * 16) ((look t.now.0.now).byte (7 + i)) }
 {
-    let mut bits = [0u8; 28];
-    let mut i = 0;
-    while i < 27 {
-        bits[i] = (t[7 + i] % 256) as u8;
-        i += 1;
-    }
-    bits[27] = (t[34] % 16) as u8 * 16;
-    Beside {
-        bits,
-        givei: [0; 15],
-        givd: [0; 15],
+    if i == 27 {
+        (t.wide(34) % 16) as u8 * 16
+    } else {
+        (t.wide(7 + i) % 256) as u8
     }
 }
 
-// The record of a message, by its ID.
-fn message_record(id: u64, t: [u64; 42]) -> Record
-    ensures { result ≡ (message_by id (look t)).«record» }
+// The 220 bits of a message.
+fn data_of(t: &View) -> Beside
+    ensures { result ≡ data_of (look t.now.0.now) }
+{
+    Beside {
+        bits: array::from_fn(|i| byte_at(t, i)),
+        ..Beside::nothing()
+    }
+}
+
+// The record of a message and what stands beside it, by its ID.
+fn message_entry(id: u64, t: &View) -> Entry
+    ensures { result ≡ message_by id (look t.now.0.now) }
 {
     match id {
-        5 => Record::IonoGrid(iono_grid_of(t)),
-        7 => Record::Almanac(almanac_of(t)),
-        9 => Record::GpsTime(time_offsets_of(t)),
-        11 => Record::EarthIono(earth_iono_of(t)),
-        26 => Record::GnssTime(time_offsets_of(t)),
-        0 => Record::Null(null_of(t)),
-        _ => Record::Unread(unread_of(t)),
-    }
-}
-
-// What stands beside the record of a message.
-fn message_beside(id: u64, t: [u64; 42]) -> Beside
-    ensures { result ≡ (message_by id (look t)).beside }
-{
-    match id {
-        5 => pairs_of(t),
-        7 => nothing_beside(),
-        9 => nothing_beside(),
-        11 => nothing_beside(),
-        26 => nothing_beside(),
-        _ => data_of(t),
+        5 => Entry {
+            record: Record::IonoGrid(iono_grid_of(t)),
+            beside: pairs_of(t),
+        },
+        7 => Entry::from(Record::Almanac(almanac_of(t))),
+        9 => Entry::from(Record::GpsTime(time_offsets_of(t))),
+        11 => Entry::from(Record::EarthIono(earth_iono_of(t))),
+        26 => Entry::from(Record::GnssTime(time_offsets_of(t))),
+        0 => Entry {
+            record: Record::Null(null_of(t)),
+            beside: data_of(t),
+        },
+        _ => Entry {
+            record: Record::Unread(unread_of(t)),
+            beside: data_of(t),
+        },
     }
 }
 
 // The same of a body, by its subframe ID.
-fn record_of(subframe: u64, id: u64, t: [u64; 42]) -> Record
-    ensures { result ≡ (entry_by subframe id (look t)).«record» }
+#[tactic(auto, unfolding(crate::specs::Records::entry_by))]
+pub fn entry(subframe: u64, id: u64, t: &View) -> Entry
+    ensures { result ≡ entry_by subframe id (look t.now.0.now) }
 {
     match subframe {
-        0 => Record::Subframe1(subframe1_of(t)),
-        1 => Record::Subframe2(subframe2_of(t)),
-        _ => message_record(id, t),
-    }
-}
-
-fn beside_of(subframe: u64, id: u64, t: [u64; 42]) -> Beside
-    ensures { result ≡ (entry_by subframe id (look t)).beside }
-{
-    match subframe {
-        0 => nothing_beside(),
-        1 => nothing_beside(),
-        _ => message_beside(id, t),
-    }
-}
-
-// The record of a body with these IDs, and what stands beside it.
-pub fn entry(subframe: u64, id: u64, t: [u64; 42]) -> Entry
-    ensures { result ≡ entry_by subframe id (look t) }
-{
-    Entry {
-        record: record_of(subframe, id, t),
-        beside: beside_of(subframe, id, t),
+        0 => Entry::from(Record::Subframe1(subframe1_of(t))),
+        1 => Entry::from(Record::Subframe2(subframe2_of(t))),
+        _ => message_entry(id, t),
     }
 }

@@ -3,7 +3,7 @@
 use mathlib.Core.Path.{◌≡◌, refl, sym, ap, ap₂, ◌∙◌}
 use mathlib.Core.Bool.{Bool, true, false}
 use mathlib.Core.List.{List, [], ◌∷◌, ◌++◌, append-nil}
-use Prim.Native.Nat.{ℕ, zero, suc, ◌+◌, ◌-◌, ◌^◌, ◌≤◌, ◌<◌, min}
+use Prim.Native.Nat.{ℕ, ◌+◌, ◌-◌, ◌^◌, ◌≤◌, ◌<◌, min}
 use native.Mathlib.Decide.{ℕ_discrete, dec_le}
 use native.Mathlib.Nat.{add-zero}
 use native.Mathlib.Numerals.{add-one}
@@ -12,10 +12,14 @@ use borrow.Author.Tests.{eq-eqb, ne_eqb}
 use lib.Dec.{eqb}
 use lib.ListN.{length, set, take, replicate, length-append, length-set, length-replicate}
 use lib.Seq.{set_out, set-append_seam, take-suc, take_at, append_snoc}
+use Rattle.std.specs.Prelude.{Option, Some, None, Err, IfSome}
+use Rattle.std.specs.Io.KnownBytes.{Consumes}
 use Rattle.bits.specs.Lists.{at, pick}
 use Rattle.navic.specs.Input.{symbol_of, symbols_in, kept_after, count_after, Gathered, line_after}
-use Rattle.navic.specs.Navic.{family, answer, line_of}
-use Rattle.demands.proofs.Ordered.{not_600}
+use Rattle.navic.specs.declared.ReadRefusal.TheVariants.{Length}
+use Rattle.navic.specs.Navic.{answer, line_of}
+use Rattle.navic.proofs.Answers.{length_answer}
+use Rattle.std.proofs.lemmas.List.{replicate-append-replicate}
 
 -- ---- two pieces, one after the other
 pick_append : (t : Bool) (x y b : List ℕ) → pick t (x ++ b) (y ++ b) ≡ pick t x y ++ b
@@ -61,16 +65,6 @@ pub gathered_none : {k : List ℕ} {n : ℕ} → n < 2 ^ 64 → Gathered k n [] 
 unfolding symbols_in kept_after count_after
 gathered_none h = record { keeps = refl; counts = omega arith }
 
--- a line feed, and a symbol
-module _ (k : List ℕ) (n b : ℕ) where
-  pub gathered_feed : n < 2 ^ 64 → b ≡ 10 → Gathered k n (b ∷ []) k n
-  unfolding symbols_in kept_after count_after
-  gathered_feed h e = rw e (record { keeps = refl; counts = omega arith })
-
-  pub gathered_symbol : (b ≡ 10 → ⊥) → Gathered k n (b ∷ []) (set k n (symbol_of b)) (min (n + 1) (2 ^ 64 - 1))
-  unfolding symbols_in kept_after count_after
-  gathered_symbol d = record { keeps = rw (ne_eqb b 10 d) refl; counts = rw (ne_eqb b 10 d) refl }
-
 -- ANY PIECES: one after another they are gathered as one
 pub gathered_more : {k a kept b later : List ℕ} {n count last : ℕ} → length k < 2 ^ 64 → Gathered k n a kept count → Gathered kept count b later last
     → Gathered k n (a ++ b) later last
@@ -87,9 +81,6 @@ pub gathered_next : {k kept later : List ℕ} {n count last : ℕ} (bytes : List
     → Gathered k n (take i bytes) kept count → Gathered kept count (at bytes i ∷ []) later last → Gathered k n (take (i + 1) bytes) later last
 gathered_next bytes i few h g one = rw (add-one i, take-suc bytes i 0 h) (gathered_more few g one)
 
-pub gathered_long : (k bytes kept : List ℕ) (n count : ℕ) → Gathered k n bytes kept count → length kept ≡ length k
-gathered_long k bytes kept n count g = ap length g.keeps ∙ kept_long k n (symbols_in bytes)
-
 -- ---- a whole input
 -- what stands from a place on gives way to as many symbols, and what stands behind it stays
 kept_front : (p r q s : List ℕ) → length r ≡ length s → kept_after (p ++ (r ++ q)) (length p) s ≡ p ++ (s ++ q)
@@ -101,15 +92,11 @@ kept_front p (y ∷ r) q (x ∷ s) e =
     let one : length p + 1 ≡ length (p ++ (x ∷ [])) = omega (arith, length-append p (x ∷ [])) in
     rw (set-append_seam p y (r ++ q) x, ← append_snoc p x (r ++ q), one) (kept_front (p ++ (x ∷ [])) r q s (omega arith) ∙ append_snoc p x (s ++ q))
 
-zeros_apart : (a b : ℕ) → replicate {A = ℕ} (a + b) 0 ≡ replicate a 0 ++ replicate b 0
-zeros_apart zero b = let e : 0 + b ≡ b = omega arith in ap (λ (n : ℕ). replicate {A = ℕ} n 0) e
-zeros_apart (suc a) b = let e : suc a + b ≡ suc (a + b) = omega arith in ap (λ (n : ℕ). replicate {A = ℕ} n 0) e ∙ ap (λ (l : List ℕ). 0 ∷ l) (zeros_apart a b)
-
 -- symbols for which there is room are kept as they came
 kept_first : (n : ℕ) (s : List ℕ) → length s ≤ n → kept_after (replicate n 0) 0 s ≡ s ++ replicate (n - length s) 0
 kept_first n s h =
     let e : n ≡ length s + (n - length s) = omega arith in
-    ap (λ (l : List ℕ). kept_after l 0 s) (ap (λ (k : ℕ). replicate k 0) e ∙ zeros_apart (length s) (n - length s))
+    ap (λ (l : List ℕ). kept_after l 0 s) (ap (λ (k : ℕ). replicate k 0) e ∙ sym (replicate-append-replicate (length s) (n - length s) 0))
     ∙ kept_front [] (replicate (length s) 0) (replicate (n - length s) 0) s (length-replicate {A = ℕ} (length s) 0)
 
 -- 600 symbols are kept as they came
@@ -140,6 +127,23 @@ pub count_of_600 : (s : List ℕ) → length s ≡ 600 → count_after 0 s ≡ 6
 unfolding count_after
 count_of_600 s e = omega arith
 
+-- no input of fewer bytes has given so many
+pub fewer : (a b : Option (List ℕ)) (bytes : List ℕ) (n : ℕ) (P : List ℕ → Type 0) → Consumes a b bytes → n ≤ length bytes
+    → IfSome a (λ all. length all < n → P all)
+fewer None b bytes n P read h = tt
+fewer (Some all) None bytes n P read h = absurd read
+fewer (Some all) (Some rest) bytes n P read h = λ few. absurd (omega (arith, ap length read, length-append bytes rest))
+
+-- the line, by the count
+module _ (kept : List ℕ) (count : ℕ) where
+  pub line_other : (count ≡ 600 → ⊥) → line_after kept count ≡ line_of (Err Length)
+  unfolding line_after
+  line_other d = rw (ne_eqb count 600 d) refl
+
+  pub line_600 : count ≡ 600 → line_after kept count ≡ line_of (answer kept 36)
+  unfolding line_after
+  line_600 e = rw (eq-eqb count 600 e) refl
+
 -- A WHOLE INPUT, gathered from nothing: it had 600 symbols exactly where 600 are counted, and then they are what is kept
 module _ (bytes kept : List ℕ) (count : ℕ) (g : Gathered (replicate 600 0) 0 bytes kept count) where
   pub gathered_whole : count ≡ 600 → kept ≡ symbols_in bytes
@@ -149,9 +153,8 @@ module _ (bytes kept : List ℕ) (count : ℕ) (g : Gathered (replicate 600 0) 0
   gathered_other no-600 e = no-600 (g.counts ∙ count_of_600 (symbols_in bytes) e)
 
   -- its line is that of what the reader answers to its symbols
-  pub whole_line : line_after kept count ≡ line_of (answer (symbols_in bytes) 36).reading
-  unfolding line_after answer
+  pub whole_line : line_after kept count ≡ line_of (answer (symbols_in bytes) 36)
   whole_line = elim (ℕ_discrete count 600) [
-    | yes e ↦ rw (eq-eqb count 600 e, gathered_whole e) refl
-    | no d ↦ rw (ne_eqb count 600 d, not_600 family (symbols_in bytes) 36 (gathered_other d)) refl
+    | yes e ↦ line_600 kept count e ∙ ap (λ (s : List ℕ). line_of (answer s 36)) (gathered_whole e)
+    | no d ↦ line_other kept count d ∙ sym (ap line_of (length_answer (symbols_in bytes) 36 (gathered_other d)))
   ]

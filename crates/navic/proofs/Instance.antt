@@ -15,9 +15,10 @@ use Rattle.message.proofs.Laws.{body_long, body_bits, record_back, body_back, re
 use Rattle.demands.specs.Refusals.{Given, none, here, later}
 use Rattle.demands.specs.Family.{Lawful}
 use Rattle.navic.specs.Navic.{entry_conditions, entry_refusal, family}
+use Rattle.std.proofs.lemmas.Bool.{true≢false}
 
 pub clash : {b : Bool} → b ≡ false → b ≡ true → ⊥
-clash p q = let z : ◌≡◌ {A = ℕ} 0 1 = (cc) in omega arith
+clash p q = true≢false (cc)
 
 module _ (e : Entry) where
   id : Bool

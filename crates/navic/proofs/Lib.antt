@@ -1,5 +1,4 @@
 pub mod Answers
 pub mod Gathering
 pub mod Instance
-pub mod Packing
 pub mod Theorems

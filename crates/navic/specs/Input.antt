@@ -1,8 +1,9 @@
 -- From a program's bytes to symbols (01, "Numbers that the calls give": the program). Assumes nothing.
-use Rattle.std.specs.Prelude.{◌≡◌, List, [], ◌∷◌, ℕ, ◌+◌, ◌-◌, ◌^◌, min, eqb, length, set}
+use Rattle.std.specs.Prelude.{◌≡◌, List, [], ◌∷◌, ℕ, ◌+◌, ◌-◌, ◌^◌, min, eqb, length, set, Option, Err}
+use Rattle.std.specs.Io.KnownBytes.{Consumes}
 use Rattle.bits.specs.Lists.{pick}
 use Rattle.navic.specs.declared.Numbers.{Numbers}
-use Rattle.navic.specs.declared.Reading.TheVariants.{Length}
+use Rattle.navic.specs.declared.ReadRefusal.TheVariants.{Length}
 use Rattle.navic.specs.Navic.{answer, line_of}
 
 -- '0' and '1' are the symbols 0 and 1; any other byte is a bad symbol
@@ -28,6 +29,10 @@ pub record Gathered (k : List ℕ) (n : ℕ) (bytes kept : List ℕ) (count : �
   pub keeps : kept ≡ kept_after k n (symbols_in bytes)
   pub counts : count ≡ count_after n (symbols_in bytes)
 
+-- a reader gave some bytes and lost no other, where what it had to give is known before and after; they are gathered from the first place on
+abbrev pub GatheredFrom : Option (List ℕ) → Option (List ℕ) → List ℕ → List ℕ → ℕ → Type 0
+GatheredFrom before after k kept count = (bytes : List ℕ) × Consumes before after bytes × Gathered k 0 bytes kept count
+
 -- the line of an input of which these symbols were kept and so many were counted; the program has 36 bytes of its own
 unfoldable pub line_after : List ℕ → ℕ → Numbers
-line_after kept count = line_of (pick (eqb count 600) (answer kept 36).reading Length)
+line_after kept count = line_of (pick (eqb count 600) (answer kept 36) (Err Length))

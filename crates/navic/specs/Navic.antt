@@ -1,19 +1,19 @@
 -- This family of messages, and what the public calls answer (01, "Numbers that the calls give"). Assumes nothing.
-use Rattle.std.specs.Prelude.{◌≡◌, Bool, true, false, List, [], ◌∷◌, ℕ, eqb}
+use Rattle.std.specs.Prelude.{◌≡◌, Bool, true, false, List, [], ◌∷◌, ◌++◌, ℕ, eqb, Result, Ok, Err, codes}
+use Rattle.std.specs.Fmt.{decimal}
 use Rattle.bits.specs.Lists.{pick}
 use Rattle.idle.specs.Idle.{idle_of}
 use Rattle.weektime.specs.Time.{towc_refused}
-use Rattle.message.specs.declared.Record.{Record}
-use Rattle.message.specs.declared.Beside.{Beside}
+use Rattle.link.specs.declared.LinkRefusal.{LinkRefusal}
+use Rattle.link.specs.declared.LinkRefusal.TheVariants as link
 use Rattle.message.specs.declared.Entry.{Entry}
-use Rattle.message.specs.Numbers.{nothing}
 use Rattle.message.specs.Records.{from_body, to_body, fault_of, id_refused, towc_in, subframe_of, message_id_of}
 use Rattle.navic.specs.declared.Quality.{Quality}
 use Rattle.navic.specs.declared.Reading.{Reading}
-use Rattle.navic.specs.declared.Reading.TheVariants as reading
-use Rattle.navic.specs.declared.Readout.{Readout}
-use Rattle.navic.specs.declared.Written.{Written}
-use Rattle.navic.specs.declared.Written.TheVariants as written
+use Rattle.navic.specs.declared.ReadRefusal.{ReadRefusal}
+use Rattle.navic.specs.declared.ReadRefusal.TheVariants as reading
+use Rattle.navic.specs.declared.WriteRefusal.{WriteRefusal}
+use Rattle.navic.specs.declared.WriteRefusal.TheVariants as writing
 use Rattle.navic.specs.declared.Numbers.{Numbers}
 use Rattle.demands.specs.Refusals.{Refusal}
 use Rattle.demands.specs.Family as any
@@ -54,11 +54,7 @@ family =
 abbrev pub quality : ℕ → Bool → Quality
 quality n t = record { corrected = n; turned_over = t }
 
--- beside a refusal there is no record, and nothing stands beside it
-abbrev pub refused_by : Reading → Readout
-refused_by r = record { reading = r; beside = nothing }
-
-abbrev pub refusal_of : Why → Quality → Reading
+abbrev pub refusal_of : Why → Quality → ReadRefusal
 refusal_of not_of_600 q = reading.Length
 refusal_of little_room q = reading.Room
 refusal_of bad_symbol q = reading.BadSymbol
@@ -68,51 +64,53 @@ refusal_of is_idle q = reading.Idle q
 refusal_of bad_check q = reading.BadCheck q
 refusal_of bad_time q = reading.BadTime q
 
-abbrev pub read_of : any.Reading family → Readout
-read_of (done e n t) = record { reading = reading.Done e.«record» (quality n t); beside = e.beside }
-read_of (refused y n t) = refused_by (refusal_of y (quality n t))
+-- the link's refusals are the reader's
+abbrev pub of_link : LinkRefusal → ReadRefusal
+of_link link.BadSymbol = reading.BadSymbol
+of_link link.NoSync = reading.NoSync
+of_link link.NoWord = reading.NoWord
+
+abbrev pub read_of : any.Reading family → Result Reading ReadRefusal
+read_of (done e n t) = Ok (record { entry = e; quality = quality n t })
+read_of (refused y n t) = Err (refusal_of y (quality n t))
 
 -- what the reader answers to the symbols s, lent `room` bytes
-unfoldable pub answer : List ℕ → ℕ → Readout
+unfoldable pub answer : List ℕ → ℕ → Result Reading ReadRefusal
 answer s room = read_of (any.reading_of family s room)
 
 -- the lent bytes after reading
 unfoldable pub lent_after_read : List ℕ → List ℕ → List ℕ
 lent_after_read s lent = any.read_into family s lent
 
--- the paper's number of an answer, and the corrected count and polarity beside it
-abbrev pub number_in : Reading → ℕ
-number_in (reading.Done r q) = 0
-number_in reading.Length = 1
-number_in reading.Room = 2
-number_in reading.BadSymbol = 3
-number_in reading.NoSync = 4
-number_in reading.NoWord = 10
-number_in (reading.Idle q) = 5
-number_in (reading.BadCheck q) = 6
-number_in (reading.BadTime q) = 7
+-- README's number of a refusal, and the corrected count and polarity beside it
+abbrev pub refusal_number : ReadRefusal → ℕ
+refusal_number reading.Length = 1
+refusal_number reading.Room = 2
+refusal_number reading.BadSymbol = 3
+refusal_number reading.NoSync = 4
+refusal_number reading.NoWord = 10
+refusal_number (reading.Idle q) = 5
+refusal_number (reading.BadCheck q) = 6
+refusal_number (reading.BadTime q) = 7
 
-abbrev pub is_done : Reading → Bool
-is_done (reading.Done r q) = true
-is_done reading.Length = false
-is_done reading.Room = false
-is_done reading.BadSymbol = false
-is_done reading.NoSync = false
-is_done reading.NoWord = false
-is_done (reading.Idle q) = false
-is_done (reading.BadCheck q) = false
-is_done (reading.BadTime q) = false
+abbrev pub refusal_quality : ReadRefusal → Quality
+refusal_quality reading.Length = quality 0 false
+refusal_quality reading.Room = quality 0 false
+refusal_quality reading.BadSymbol = quality 0 false
+refusal_quality reading.NoSync = quality 0 false
+refusal_quality reading.NoWord = quality 0 false
+refusal_quality (reading.Idle q) = q
+refusal_quality (reading.BadCheck q) = q
+refusal_quality (reading.BadTime q) = q
 
-abbrev pub quality_in : Reading → Quality
-quality_in (reading.Done r q) = q
-quality_in reading.Length = quality 0 false
-quality_in reading.Room = quality 0 false
-quality_in reading.BadSymbol = quality 0 false
-quality_in reading.NoSync = quality 0 false
-quality_in reading.NoWord = quality 0 false
-quality_in (reading.Idle q) = q
-quality_in (reading.BadCheck q) = q
-quality_in (reading.BadTime q) = q
+-- the same of an answer
+abbrev pub number_in : Result Reading ReadRefusal → ℕ
+number_in (Ok r) = 0
+number_in (Err y) = refusal_number y
+
+abbrev pub quality_in : Result Reading ReadRefusal → Quality
+quality_in (Ok r) = r.quality
+quality_in (Err y) = refusal_quality y
 
 -- the program's line: refusal, corrected count, polarity (1 is turned over), subframe, TOWC, message ID; the last three 0 unless it is done
 abbrev pub line_from : ℕ → Quality → ℕ → ℕ → ℕ → Numbers
@@ -126,44 +124,46 @@ line_from n q subframe towc id =
       message_id = id;
     }
 
-abbrev pub line_of : Reading → Numbers
-line_of (reading.Done r q) = line_from 0 q (subframe_of r) (towc_in r) (message_id_of r)
-line_of reading.Length = line_from 1 (quality 0 false) 0 0 0
-line_of reading.Room = line_from 2 (quality 0 false) 0 0 0
-line_of reading.BadSymbol = line_from 3 (quality 0 false) 0 0 0
-line_of reading.NoSync = line_from 4 (quality 0 false) 0 0 0
-line_of reading.NoWord = line_from 10 (quality 0 false) 0 0 0
-line_of (reading.Idle q) = line_from 5 q 0 0 0
-line_of (reading.BadCheck q) = line_from 6 q 0 0 0
-line_of (reading.BadTime q) = line_from 7 q 0 0 0
+abbrev pub line_of : Result Reading ReadRefusal → Numbers
+line_of (Ok r) = let c = r.entry.«record» in line_from 0 r.quality (subframe_of c) (towc_in c) (message_id_of c)
+line_of (Err y) = line_from (refusal_number y) (refusal_quality y) 0 0 0
+
+-- its text: the six numbers, with a blank between them
+abbrev pub text_of : Numbers → List ℕ
+text_of n =
+    decimal n.refusal
+    ++ (codes " "
+    ++ (decimal n.corrected
+    ++ (codes " " ++ (decimal n.polarity ++ (codes " " ++ (decimal n.subframe ++ (codes " " ++ (decimal n.towc ++ (codes " " ++ decimal n.message_id)))))))))
 
 -- ---- the writer
-abbrev pub entry_of : Record → Beside → Entry
-entry_of r b = record { «record» = r; beside = b }
+-- README's number and the number beside it, of an answer
+abbrev pub written_number : Result (Unit {0}) WriteRefusal → ℕ
+written_number (Ok u) = 0
+written_number (Err writing.Room) = 2
+written_number (Err writing.Id) = 9
+written_number (Err writing.Time) = 7
+written_number (Err (writing.Field k)) = 8
 
--- the paper's number and the number beside it, of an answer
-abbrev pub written_number : Written → ℕ
-written_number written.Done = 0
-written_number written.Room = 2
-written_number written.Id = 9
-written_number written.Time = 7
-written_number (written.Field k) = 8
-
-abbrev pub written_beside : Written → ℕ
-written_beside written.Done = 0
-written_beside written.Room = 0
-written_beside written.Id = 0
-written_beside written.Time = 0
-written_beside (written.Field k) = k
+abbrev pub written_beside : Result (Unit {0}) WriteRefusal → ℕ
+written_beside (Ok u) = 0
+written_beside (Err writing.Room) = 0
+written_beside (Err writing.Id) = 0
+written_beside (Err writing.Time) = 0
+written_beside (Err (writing.Field k)) = k
 
 -- the answer of a number, where k stands beside 8
-abbrev pub written_by : ℕ → ℕ → Written
-written_by n k = pick (eqb n 0) written.Done (pick (eqb n 2) written.Room (pick (eqb n 9) written.Id (pick (eqb n 7) written.Time (written.Field k))))
+abbrev pub written_by : ℕ → ℕ → Result (Unit {0}) WriteRefusal
+written_by n k =
+    pick (eqb n 0) (Ok tt)
+    (pick (eqb n 2) (Err writing.Room)
+    (pick (eqb n 9) (Err writing.Id)
+    (pick (eqb n 7) (Err writing.Time) (Err (writing.Field k)))))
 
 -- what the writer answers to a record and what stands beside it, lent `room` bytes
-unfoldable pub write_answer : Record → Beside → ℕ → Written
-write_answer r b room = written_by (any.writing_of family (entry_of r b) room) (entry_beside (entry_of r b))
+unfoldable pub write_answer : Entry → ℕ → Result (Unit {0}) WriteRefusal
+write_answer e room = written_by (any.writing_of family e room) (entry_beside e)
 
 -- the lent bytes after writing
-unfoldable pub lent_after_write : Record → Beside → List ℕ → List ℕ
-lent_after_write r b lent = any.write_into family (entry_of r b) lent
+unfoldable pub lent_after_write : Entry → List ℕ → List ℕ
+lent_after_write e lent = any.write_into family e lent

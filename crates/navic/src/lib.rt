@@ -1,30 +1,33 @@
 // The reader and the writer.
 #![tactic(auto)]
 
-ghost use Rattle.std.specs.Prelude.{◌≡◌, [], ◌∷◌, ◌++◌, ◌+◌, ◌≤◌, length, take, drop};
-ghost use Rattle.bits.specs.Lists.{part, pick};
-ghost use Rattle.bits.specs.Numbers.{number};
-ghost use Rattle.demands.specs.Family.{packed};
-ghost use Rattle.navic.specs.Navic.{answer, lent_after_read, line_of, write_answer, lent_after_write};
+ghost use Rattle.std.specs.Prelude.{◌≡◌, ◌++◌, ◌≤◌, length, drop};
+ghost use Rattle.demands.specs.Family.{symbols_of};
+ghost use Rattle.navic.specs.Navic.{family, answer, lent_after_read, line_of, write_answer, lent_after_write};
 
-use message::{Beside, Record};
+use message::Entry;
 
 pub mod input;
 mod lines;
 mod reader;
-mod writer;
 
-// How well a subframe was received: the corrected count, and whether it came turned over.
-#[derive(Clone, Copy)]
+// How well a subframe was received: the corrected count, and whether it came turned over, a bool as in `link::Received`.
+#[derive(Clone, Copy, Debug, PartialEq, Eq)]
 pub struct Quality {
     pub corrected: u16,
     pub turned_over: bool,
 }
 
-// What the reader answers. In the paper's numbers: 0, 1, 2, 3, 4, 10, 5, 6, 7.
+// A record that was read with what stands beside it, and how well its subframe was received.
 #[derive(Clone, Copy)]
-pub enum Reading {
-    Done(Record, Quality),
+pub struct Reading {
+    pub entry: Entry,
+    pub quality: Quality,
+}
+
+// Why the reader gives no record. In README's numbers: 1, 2, 3, 4, 10, 5, 6, 7.
+#[derive(Clone, Copy, Debug, PartialEq, Eq)]
+pub enum ReadRefusal {
     Length,
     Room,
     BadSymbol,
@@ -35,26 +38,18 @@ pub enum Reading {
     BadTime(Quality),
 }
 
-// The answer, and what stands beside its record; 0 where there is none.
-#[derive(Clone, Copy)]
-pub struct Readout {
-    pub reading: Reading,
-    pub beside: Beside,
-}
-
-// What the writer answers. In the paper's numbers: 0, 2, 9, 7, 8 with the first bit of the lowest field at fault.
-#[derive(Clone, Copy)]
-pub enum Written {
-    Done,
+// Why the writer writes nothing. In README's numbers: 2, 9, 7, 8 with the first bit of the lowest field at fault.
+#[derive(Clone, Copy, Debug, PartialEq, Eq)]
+pub enum WriteRefusal {
     Room,
     Id,
     Time,
     Field(u16),
 }
 
-// The six numbers that the program prints.
+// The six numbers that the program prints. The refusal is one of them, 0 for none, since C and the program's line read it as a number.
 #[repr(C)]
-#[derive(Clone, Copy)]
+#[derive(Clone, Copy, Debug, PartialEq, Eq)]
 pub struct Numbers {
     pub refusal: u32,
     pub corrected: u32,
@@ -64,128 +59,82 @@ pub struct Numbers {
     pub message_id: u32,
 }
 
-// The byte of the eight bits from k on, most significant first.
-fn byte_at(word: &[u8], k: usize) -> u8
-    requires { k + 8 ≤ length word.now + 2 }
-    ensures { result ≡ number (part (word.now ++ (0 ∷ 0 ∷ [])) k 8) }
-{
-    let mut n: u8 = 0;
-    for j in 0..8 {
-        n = n * 2 + bits::bit(word, k + j);
-    }
-    n
-}
-
-// The word's bits in 36 bytes.
-fn pack(word: &[u8; 286]) -> [u8; 36]
-    ensures { result ≡ packed word.now }
-{
-    let mut bytes = [0u8; 36];
-    for i in 0..36 {
-        bytes[i] = byte_at(word, 8 * i);
-    }
-    bytes
-}
-
-// Puts the first n bytes of `from` at the start of `to`; what stands there beyond them stays.
-fn copy(to: &mut [u8], from: &[u8], n: usize)
-    requires { (n ≤ length from.now) × (n ≤ length to.old) }
-    ensures { to.new ≡ take n from.now ++ drop n to.old }
-{
-    for i in 0..n {
-        to[i] = from[i];
-    }
-}
-
-// The first 262 bits of a word.
-fn body_of(word: &[u8; 286]) -> [u8; 262]
-    ensures { result ≡ take 262 word.now }
-{
-    let mut body = [0u8; 262];
-    copy(&mut body, word, 262);
-    body
-}
-
-// The symbols of a slice that has 600.
-fn all_600(symbols: &[u8]) -> [u8; 600]
-    requires { length symbols.now ≡ 600 }
-    ensures { result ≡ symbols.now }
-{
-    let mut all = [0u8; 600];
-    copy(&mut all, symbols, 600);
-    all
-}
-
-// Done, the word's bits are put into the first 36 bytes lent.
-fn lend(room: &mut [u8], word: &[u8; 286], done: bool)
-    requires { 36 ≤ length room.old }
-    ensures { room.new ≡ pick done (packed word.now ++ drop 36 room.old) room.old }
-{
-    if done {
-        let bytes = pack(word);
-        copy(room, &bytes, 36);
-    }
-}
-
 // Reads the 600 symbols of a subframe. Done, bits 1 to 286 are put into the first 36 bytes lent; what is lent beyond them stays, and all of it
 // beside a refusal.
-#[tactic(auto, using(crate::proofs::Answers::room_answer, crate::proofs::Answers::room_kept))]
-pub fn read(symbols: &[u8], room: &mut [u8]) -> Readout
+#[tactic(auto, using(crate::proofs::Answers::length_answer, crate::proofs::Answers::room_answer, crate::proofs::Answers::length_kept, crate::proofs::Answers::little_kept))]
+pub fn read(symbols: &[u8], room: &mut [u8]) -> Result<Reading, ReadRefusal>
     ensures value { result ≡ answer symbols.now (length room.old) }
     ensures room_after { room.new ≡ lent_after_read symbols.now room.old }
 {
-    if symbols.len() != 600 {
-        return reader::refuse(Reading::Length);
-    }
+    let Some(symbols) = symbols.as_array::<600>() else {
+        return Err(ReadRefusal::Length);
+    };
     if room.len() < 36 {
-        return reader::refuse(Reading::Room);
+        return Err(ReadRefusal::Room);
     }
-    let all = all_600(symbols);
-    let received = link::receive(&all);
-    let word = received.word;
-    let answer = received.answer;
-    let read = reader::by_link(answer, &word);
-    let reading = read.reading;
-    lend(room, &word, reader::is_done(reading));
-    read
+    let received = link::receive(symbols)?;
+    let reading = reader::reading(&received)?;
+    put(room, &reader::pack(&received.word));
+    Ok(reading)
+}
+
+// Puts bytes at the start of what is lent; what stands beyond them stays.
+fn put(room: &mut [u8], bytes: &[u8])
+    requires { length bytes.now ≤ length room.old }
+    ensures { room.new ≡ bytes.now ++ drop (length bytes.now) room.old }
+{
+    room[..bytes.len()].copy_from_slice(bytes);
 }
 
 // Writes a record and what stands beside it as 600 upright symbols. What is lent beyond them stays, and all of it beside a refusal.
-pub fn write(record: Record, beside: Beside, room: &mut [u8]) -> Written
-    ensures value { result ≡ write_answer «record» beside (length room.old) }
-    ensures room_after { room.new ≡ lent_after_write «record» beside room.old }
+#[tactic(auto, using(crate::proofs::Answers::accepted_room, crate::proofs::Answers::refused_as, crate::proofs::Answers::symbols_long, crate::proofs::Theorems::lent_written, crate::proofs::Theorems::lent_unwritten))]
+pub fn write(entry: Entry, room: &mut [u8]) -> Result<(), WriteRefusal>
+    ensures value { result ≡ write_answer entry (length room.old) }
+    ensures room_after { room.new ≡ lent_after_write entry room.old }
 {
-    if room.len() < 600 {
-        return Written::Room;
-    }
-    if message::id_refused(record) {
-        return Written::Id;
-    }
-    if weektime::refused(message::towc(record)) {
-        return Written::Time;
-    }
-    let fault = message::fault(record, beside);
-    if fault != 0 {
-        return Written::Field(fault);
-    }
-    let sent = writer::symbols(record, beside);
-    copy(room, &sent, 600);
-    Written::Done
+    check(entry, room.len())?;
+    put(room, &symbols(entry));
+    Ok(())
 }
 
-// The line of an answer.
-pub fn line(reading: Reading) -> Numbers
-    ensures { result ≡ line_of reading }
+// Whether the writer takes a record and what stands beside it, lent so many bytes.
+#[tactic(auto, using(crate::proofs::Answers::little, crate::proofs::Answers::foreign, crate::proofs::Answers::untimely, crate::proofs::Answers::faulty, crate::proofs::Answers::sound))]
+fn check(entry: Entry, room: usize) -> Result<(), WriteRefusal>
+    ensures { result ≡ write_answer entry room }
 {
-    match reading {
-        Reading::Done(record, q) => lines::done_line(record, q),
-        Reading::Length => lines::bare_line(1),
-        Reading::Room => lines::bare_line(2),
-        Reading::BadSymbol => lines::bare_line(3),
-        Reading::NoSync => lines::bare_line(4),
-        Reading::NoWord => lines::bare_line(10),
-        Reading::Idle(q) => lines::refusal_line(5, q),
-        Reading::BadCheck(q) => lines::refusal_line(6, q),
-        Reading::BadTime(q) => lines::refusal_line(7, q),
+    if room < 600 {
+        return Err(WriteRefusal::Room);
     }
+    if entry.record.id_refused() {
+        return Err(WriteRefusal::Id);
+    }
+    if weektime::refused(entry.record.towc()) {
+        return Err(WriteRefusal::Time);
+    }
+    if let Some(first_bit) = entry.fault() {
+        return Err(WriteRefusal::Field(first_bit));
+    }
+    Ok(())
+}
+
+// The 600 upright symbols of a record and what stands beside it.
+#[tactic(auto, using(crate::proofs::Answers::symbols_answer))]
+fn symbols(entry: Entry) -> [u8; 600]
+    ensures { result ≡ symbols_of family entry }
+{
+    link::send(&crc24q::with_check(&entry.body()))
+}
+
+// The line of an answer: `Numbers::from` under the name that README has for it.
+pub fn line(read: Result<Reading, ReadRefusal>) -> Numbers
+    ensures { result ≡ line_of read }
+{
+    Numbers::from(read)
+}
+
+// The line of some symbols, read with 36 bytes of its own: what the programs print.
+pub fn line_of_symbols(symbols: &[u8]) -> Numbers
+    ensures { result ≡ line_of (answer symbols.now 36) }
+{
+    line(read(symbols, &mut [0; 36]))
 }

@@ -1,89 +1,83 @@
-// The reader's steps, from what the link says of 600 symbols to a record.
-ghost use Rattle.std.specs.Prelude.{◌≡◌};
-ghost use Rattle.demands.specs.Family.{by_time, by_check, by_link};
-ghost use Rattle.navic.specs.Navic.{family, refused_by, read_of, is_done};
+// The reader's steps, from what the link receives to a record and to the bytes lent.
+ghost use Rattle.std.specs.Prelude.{◌≡◌, ◌*◌, ◌<◌, Ok, length};
+ghost use Rattle.bits.specs.Lists.{part, build};
+ghost use Rattle.bits.specs.Numbers.{number};
+ghost use Rattle.demands.specs.Family.{by_link, packed};
+ghost use Rattle.navic.specs.Navic.{family, of_link, read_of};
 
-use crate::{Quality, Reading, Readout, body_of};
-use link::Answer;
-use message::{Beside, Entry};
+use crate::{Quality, ReadRefusal, Reading};
+use link::{LinkRefusal, Received};
+use message::Entry;
+use std::array;
 
-pub fn refuse(reading: Reading) -> Readout
-    ensures { result ≡ refused_by reading }
-{
-    Readout {
-        reading,
-        beside: Beside {
-            bits: [0; 28],
-            givei: [0; 15],
-            givd: [0; 15],
-        },
+impl From<LinkRefusal> for ReadRefusal {
+    ghost from_gives = { λ link read. read ≡ of_link link };
+
+    fn from(refusal: LinkRefusal) -> Self {
+        match refusal {
+            LinkRefusal::BadSymbol => ReadRefusal::BadSymbol,
+            LinkRefusal::NoSync => ReadRefusal::NoSync,
+            LinkRefusal::NoWord => ReadRefusal::NoWord,
+        }
     }
 }
 
-// Whether a record was read.
-pub fn is_done(reading: Reading) -> bool
-    ensures { result ≡ is_done reading }
+// 5 or 6 where the check disagrees, and then 7, or the record.
+pub fn reading(received: &Received) -> Result<Reading, ReadRefusal>
+    ensures { result ≡ read_of (by_link family (Ok received.now)) }
 {
-    match reading {
-        Reading::Done(_, _) => true,
-        Reading::Length => false,
-        Reading::Room => false,
-        Reading::BadSymbol => false,
-        Reading::NoSync => false,
-        Reading::NoWord => false,
-        Reading::Idle(_) => false,
-        Reading::BadCheck(_) => false,
-        Reading::BadTime(_) => false,
+    let word = &received.word;
+    let quality = Quality {
+        corrected: received.corrected,
+        turned_over: received.turned_over,
+    };
+    if !received.agrees {
+        return Err(if idle::idle(word) {
+            ReadRefusal::Idle(quality)
+        } else {
+            ReadRefusal::BadCheck(quality)
+        });
     }
+    let entry = Entry::parse(word.first_chunk().unwrap());
+    if weektime::refused(entry.record.towc()) {
+        return Err(ReadRefusal::BadTime(quality));
+    }
+    Ok(Reading { entry, quality })
 }
 
-// 7, or the record.
-fn by_time(entry: Entry, q: Quality) -> Readout
-    ensures { result ≡ read_of (by_time family entry q.corrected q.turned_over) }
+// The byte that eight bits spell, most significant first. A function of its own beside that of `fields` for 63 bits: one for both numbers would have
+// to be generic over their arithmetic, or to narrow what it gives.
+#[tactic(auto, using(bits::proofs::Numbers::number_next, bits::proofs::Numbers::number_few), unfolding(bits::specs::Numbers::number))]
+fn byte_of(bits: &[u8; 8]) -> u8
+    ensures { result ≡ number bits.now }
 {
-    let record = entry.record;
-    let beside = entry.beside;
-    if weektime::refused(message::towc(record)) {
-        return refuse(Reading::BadTime(q));
+    let mut n: u8 = 0;
+    for bit in bits {
+        n = n * 2 + bit % 2;
     }
-    let reading = Reading::Done(record, q);
-    Readout { reading, beside }
+    n
 }
 
-// 5 or 6 where the check disagrees, and then 7.
-fn by_check(agrees: bool, word: &[u8; 286], q: Quality) -> Readout
-    ensures { result ≡ read_of (by_check family agrees word.now q.corrected q.turned_over) }
+// The byte of the eight bits that follow the first 8 i.
+fn byte_at(bits: &[u8; 288], i: usize) -> u8
+    requires { i < 36 }
+    ensures { result ≡ number (part bits.now (8 * i) 8) }
 {
-    if agrees {
-        let body = body_of(word);
-        let entry = message::parse(&body);
-        return by_time(entry, q);
-    }
-    if idle::idle(word) {
-        return refuse(Reading::Idle(q));
-    }
-    refuse(Reading::BadCheck(q))
+    byte_of(bits[8 * i..].first_chunk().unwrap())
 }
 
-// 3, 4 and 10, and then by the check.
-pub fn by_link(answer: Answer, word: &[u8; 286]) -> Readout
-    ensures { result ≡ read_of (by_link family answer word.now) }
+// The bytes that bits spell, eight for each.
+fn bytes_of(bits: &[u8; 288]) -> [u8; 36]
+    ensures { result ≡ build 36 (λ i. number (part bits.now (8 * i) 8)) }
 {
-    match answer {
-        Answer::BadSymbol => refuse(Reading::BadSymbol),
-        Answer::NoSync => refuse(Reading::NoSync),
-        Answer::NoWord => refuse(Reading::NoWord),
-        Answer::Word {
-            corrected,
-            turned_over,
-            agrees,
-        } => by_check(
-            agrees,
-            word,
-            Quality {
-                corrected,
-                turned_over,
-            },
-        ),
-    }
+    array::from_fn(|i| byte_at(bits, i))
+}
+
+// The word's bits in 36 bytes, the two lowest bits of the last 0.
+pub fn pack(word: &[u8; 286]) -> [u8; 36]
+    ensures { result ≡ packed word.now }
+{
+    let mut bits = [0u8; 288];
+    bits[..286].copy_from_slice(word);
+    bytes_of(&bits)
 }

@@ -1,76 +1,94 @@
 -- What the calls answer, by the tests that the code makes. Assumes nothing.
 use mathlib.Core.Path.{◌≡◌, refl, sym, ap, ap₂, ◌∙◌}
-use mathlib.Core.Bool.{true, false}
+use Rattle.std.specs.Prelude.{Result, Ok, Err, Some, None}
+use mathlib.Core.Bool.{Bool, true, false}
 use mathlib.Core.List.{List, ◌∷◌, ◌++◌, map, map-append}
 use Prim.Native.Nat.{ℕ, zero, suc, ◌+◌, ◌-◌, ◌≤◌, ◌<◌}
 use native.Mathlib.Decide.{ℕ_discrete}
 use native.Mathlib.Omega.{arith}
 use borrow.Author.Tests.{eq-eqb, ne_eqb, le-leb, lt-leb}
 use lib.IntN.{ℤ, pos}
-use lib.ListN.{length, take, drop, replicate, length-append, length-map, length-replicate}
-use lib.Seq.{take_all}
-use Rattle.bits.specs.Lists.{at_most}
+use lib.ListN.{length, drop, replicate, length-append, length-map, length-replicate}
+use lib.Seq.{}
+use mir.Syntax.{w64}
+use mir.Val.{to_z}
+use Rattle.bits.specs.Lists.{at_most, pick}
+use Rattle.bits.proofs.Both.{both_false}
+use Rattle.ephemeris.specs.Pairing.{pair_of, idle_in}
 use Rattle.convolution.specs.Code.{cost}
 use Rattle.convolution.specs.Trellis.{decode}
-use Rattle.convolution.proofs.Decoded.{nearest_decode}
 use Rattle.fields.specs.Patterns.{pattern, patterns}
 use Rattle.fields.proofs.Rules.{few}
-use Rattle.link.specs.Link.{receive_of}
+use Rattle.link.specs.Link.{receive_of, word_in}
 use Rattle.link.proofs.Recovered.{sent_long}
 use Rattle.message.specs.declared.Record.{Record}
 use Rattle.message.specs.declared.Beside.{Beside}
 use Rattle.message.specs.Records.{layout_of, numbers_of}
 use Rattle.message.proofs.Laws.{numbers_long}
 use Rattle.navic.specs.declared.Reading as navic
-use Rattle.navic.specs.declared.Reading.TheVariants as reading
+use Rattle.navic.specs.declared.ReadRefusal.{ReadRefusal}
+use Rattle.navic.specs.declared.WriteRefusal.{WriteRefusal}
+use Rattle.navic.specs.declared.WriteRefusal.TheVariants as writing
 use Rattle.navic.specs.declared.Numbers.{Numbers}
-use Rattle.navic.specs.declared.Quality.{Quality}
-use Rattle.navic.specs.declared.Readout.{Readout}
-use Rattle.demands.specs.Family.{Reading, done, refused, not_of_600, little_room, bad_symbol, no_sync, no_word, is_idle, bad_check, bad_time, reading_of, after_reading, read_into, writing_of, write_into, symbols_of}
-use Rattle.navic.specs.Navic.{family, read_of, answer, lent_after_read}
+use Rattle.demands.specs.Family.{Reading, done, refused, reading_of, after_reading, read_into, writing_of, write_into, symbols_of}
+use Rattle.navic.specs.Navic.{family, read_of, answer, lent_after_read, line_of, written_number}
 use Rattle.demands.proofs.Ordered.{not_600, little_room_lem}
-use Rattle.navic.proofs.Packing.{copied, copied_whole}
 use Rattle.navic_c.specs.declared.Written.{Written}
-use Rattle.navic_c.specs.declared.Decoded.{Decoded}
+use Rattle.navic_c.specs.declared.Refusal.TheVariants as why
 use Rattle.navic_c.specs.Numbers.{padded, refusal, beside, numbered}
-use Rattle.navic_c.specs.Calls.{line_of_numbers, read_from, word_after, numbers_after, numbers_by, written_of, nearest_answer, nearest_into}
-use Rattle.navic_c.proofs.ReadAsRecords.{as_numbers, reading_same}
+use Rattle.navic_c.specs.Calls.{int64, line_of_numbers, read_from, word_after, numbers_after, numbers_by, written_as, judged_as, judged_of, written_of, fitting, record_of, record_in, pair_in, idle_of_numbers, nearest_answer, nearest_into}
+use Rattle.navic_c.proofs.ReadAsRecords.{as_numbers, reading_same, line_read}
 
 -- ---- the writer
-module _ (zs : List ℤ) (lent : List ℕ) where
-  -- the answer, and the lent symbols afterwards
-  abbrev Answers : Written → List ℕ → Type 0
-  Answers r later = (r ≡ written_of zs (length lent)) × (later ≡ write_into numbered zs lent)
+-- a refusal is none of 0
+refusal_not_0 : (e : WriteRefusal) → written_number (Err e) ≡ 0 → ⊥
+refusal_not_0 writing.Room z = omega arith
+refusal_not_0 writing.Id z = omega arith
+refusal_not_0 writing.Time z = omega arith
+refusal_not_0 (writing.Field k) z = omega arith
 
-  pub too_little : length lent < 600 → Answers (record { refusal = 2; first_bit = 0 }) lent
-  unfolding written_of writing_of write_into
-  too_little h = let e = lt-leb 600 (length lent) h in (rw e refl, rw e refl)
+pub symbols_600 : (zs : List ℤ) → length (symbols_of numbered zs) ≡ 600
+unfolding symbols_of
+symbols_600 zs = sent_long _
+
+module _ (zs : List ℤ) (lent : List ℕ) where
+  pub too_little : length lent < 600 → written_as (Err (why.Record writing.Room)) ≡ written_of zs (length lent)
+  unfolding written_of writing_of
+  too_little h = rw (lt-leb 600 (length lent) h) refl
 
   pub too_little_after : length lent < 600 → lent ≡ write_into numbered zs lent
-  too_little_after h = (too_little h).1
+  unfolding writing_of write_into
+  too_little_after h = rw (lt-leb 600 (length lent) h) refl
 
   module _ (enough : 600 ≤ length lent) where
-    pub other_count : (length zs ≡ 42 → ⊥) → Answers (record { refusal = 1; first_bit = 0 }) lent
-    unfolding written_of writing_of write_into refusal
-    other_count h = let e = le-leb 600 (length lent) enough in let f = ne_eqb (length zs) 42 h in (rw (e, f) refl, rw (e, f) refl)
+    module _ (y : Result (Unit {0}) WriteRefusal) (judged : judged_as y ≡ judged_of zs) where
+      pub answers : judged_as y ≡ written_of zs (length lent)
+      unfolding written_of writing_of judged_of beside
+      answers = rw (le-leb 600 (length lent) enough) judged
 
-    module _ (r : Written) (number : r.refusal ≡ refusal zs) (bit : r.first_bit ≡ beside zs) where
-      judged : r ≡ written_of zs (length lent)
-      unfolding written_of writing_of beside
-      judged = rw (le-leb 600 (length lent) enough) (λ i. record { refusal = number i; first_bit = bit i })
+      number : written_number y ≡ refusal zs
+      unfolding judged_of
+      number = ap (λ (w : Written). w.refusal) judged
 
-      pub refuses : (r.refusal ≡ 0 → ⊥) → Answers r lent
+      pub kept : (e : WriteRefusal) → y ≡ Err e → lent ≡ write_into numbered zs lent
       unfolding writing_of write_into
-      refuses h = (judged, rw (le-leb 600 (length lent) enough, ne_eqb (refusal zs) 0 (λ z. h (number ∙ z))) refl)
+      kept e is = rw (le-leb 600 (length lent) enough, ne_eqb (refusal zs) 0 (λ z. refusal_not_0 e (ap written_number (sym is) ∙ number ∙ z))) refl
 
-      pub writes : (sent later : List ℕ) → r.refusal ≡ 0 → sent ≡ symbols_of numbered zs → later ≡ take (length sent) sent ++ drop (length sent) lent → Answers r later
-      unfolding writing_of write_into symbols_of
-      writes sent later z e put =
-          let long : length sent ≡ 600 = ap length e ∙ sent_long _ in (
-            judged,
-            rw (le-leb 600 (length lent) enough, eq-eqb (refusal zs) 0 (sym number ∙ z))
-                (put ∙ ap₂ ◌++◌ (take_all (length sent) sent (omega arith) ∙ e) (ap (λ (k : ℕ). drop k lent) long)),
-          )
+      pub put : (sent : List ℕ) → y ≡ Ok tt → sent ≡ symbols_of numbered zs → sent ++ drop 600 lent ≡ write_into numbered zs lent
+      unfolding writing_of write_into
+      put sent is e = rw (le-leb 600 (length lent) enough, eq-eqb (refusal zs) 0 (sym number ∙ ap written_number is)) (ap (λ (l : List ℕ). l ++ drop 600 lent) e)
+
+module _ (ns lent : List ℕ) (enough : 600 ≤ length lent) (h : length ns ≡ 42 → ⊥) where
+  no_42 : length (int64 ns) ≡ 42 → ⊥
+  no_42 e = h (sym (length-map ns (to_z w64)) ∙ e)
+
+  pub other_count : written_as (Err why.Count) ≡ written_of (int64 ns) (length lent)
+  unfolding written_of writing_of refusal
+  other_count = rw (le-leb 600 (length lent) enough, ne_eqb (length (int64 ns)) 42 no_42) refl
+
+  pub other_count_after : lent ≡ write_into numbered (int64 ns) lent
+  unfolding writing_of write_into refusal
+  other_count_after = rw (le-leb 600 (length lent) enough, ne_eqb (length (int64 ns)) 42 no_42) refl
 
 -- ---- the reader, lent too few numbers
 module _ (s word ns : List ℕ) where
@@ -82,7 +100,7 @@ module _ (s word ns : List ℕ) where
   ]
 
   module _ (h : length ns < 42) where
-    pub few_read : read_from s (length word) (length ns) ≡ reading_of numbered s 0
+    few_read : read_from s (length word) (length ns) ≡ reading_of numbered s 0
     unfolding read_from
     few_read = rw (lt-leb 42 (length ns) h) refl
 
@@ -91,24 +109,10 @@ module _ (s word ns : List ℕ) where
 
     pub few_word : word ≡ word_after s word (length ns)
     unfolding word_after
-    few_word = rw few_read (sym (none_put (receive_of 1 s).word word).0)
+    few_word = rw few_read (sym (none_put (word_in (receive_of 1 s)) word).0)
 
     pub few_numbers : ns ≡ numbers_after (read_from s (length word) (length ns)) ns
-    few_numbers = rw few_read (sym (none_put (receive_of 1 s).word word).1)
-
-  -- ---- and lent enough
-  module _ (h : 42 ≤ length ns) where
-    pub enough_read : read_from s (length word) (length ns) ≡ reading_of numbered s (length word)
-    unfolding read_from
-    enough_read = rw (le-leb 42 (length ns) h) refl
-
-    put_alike : (y : Reading family) (w : List ℕ) → after_reading numbered (as_numbers y) w word ≡ after_reading family y w word
-    put_alike (done e n t) w = refl
-    put_alike (refused y n t) w = refl
-
-    pub enough_word : lent_after_read s word ≡ word_after s word (length ns)
-    unfolding lent_after_read read_into word_after
-    enough_word = rw (enough_read, reading_same s (length word)) (sym (put_alike (reading_of family s (length word)) (receive_of 1 s).word))
+    few_numbers = rw few_read (sym (none_put (word_in (receive_of 1 s)) word).1)
 
 -- ---- the record's numbers
 zero_patterns : (k : ℕ) → map pattern (replicate k (pos 0)) ≡ replicate k 0
@@ -120,7 +124,7 @@ unfolding patterns
 padded_patterns zs =
     sym (map-append pattern zs (replicate (42 - length zs) (pos 0)) ∙ ap (λ (l : List ℕ). map pattern zs ++ l) (zero_patterns (42 - length zs)))
 
-patterns_42 : (r : Record) (b : Beside) → length (patterns (numbers_of r b)) ≡ 42
+pub patterns_42 : (r : Record) (b : Beside) → length (patterns (numbers_of r b)) ≡ 42
 unfolding patterns
 patterns_42 r b =
     let zs = numbers_of r b in
@@ -128,79 +132,112 @@ patterns_42 r b =
     ∙ ap₂ ◌+◌ (length-map zs pattern) (length-replicate {A = ℕ} (42 - length zs) 0)
     ∙ omega (arith, numbers_long r b, few (layout_of r))
 
-pub table_put : (r : Record) (b : Beside) (table lent : List ℕ) → table ≡ patterns (numbers_of r b) → take 42 table ++ drop 42 lent ≡ patterns (numbers_of r b) ++ drop 42 lent
-table_put r b table lent e =
-    ap (λ (l : List ℕ). l ++ drop 42 lent) (ap (take 42) e ∙ take_all 42 (patterns (numbers_of r b)) (omega (arith, patterns_42 r b)))
+-- where no record was read, the lent numbers stay
+pub not_done : (q : Result navic.Reading ReadRefusal) (lent : List ℕ) → ((r : navic.Reading) → q ≡ Ok r → ⊥) → lent ≡ numbers_by q lent
+not_done (Ok r) lent h = absurd (h r refl)
+not_done (Err y) lent h = refl
 
-pub not_done : (q : navic.Reading) (b : Beside) (lent : List ℕ) → ((r : Record) (n : Quality) → q ≡ reading.Done r n → ⊥) → lent ≡ numbers_by q b lent
-not_done (reading.Done r q) b lent h = absurd (h r q refl)
-not_done reading.Length b lent h = refl
-not_done reading.Room b lent h = refl
-not_done reading.BadSymbol b lent h = refl
-not_done reading.NoSync b lent h = refl
-not_done reading.NoWord b lent h = refl
-not_done (reading.Idle q) b lent h = refl
-not_done (reading.BadCheck q) b lent h = refl
-not_done (reading.BadTime q) b lent h = refl
-
-lent_alike : (y : Reading family) (lent : List ℕ) → numbers_by (read_of y).reading (read_of y).beside lent ≡ numbers_after (as_numbers y) lent
+lent_alike : (y : Reading family) (lent : List ℕ) → numbers_by (read_of y) lent ≡ numbers_after (as_numbers y) lent
 lent_alike (done e n t) lent = ap (λ (l : List ℕ). l ++ drop 42 lent) (padded_patterns (numbers_of e.«record» e.beside))
-lent_alike (refused not_of_600 n t) lent = refl
-lent_alike (refused little_room n t) lent = refl
-lent_alike (refused bad_symbol n t) lent = refl
-lent_alike (refused no_sync n t) lent = refl
-lent_alike (refused no_word n t) lent = refl
-lent_alike (refused is_idle n t) lent = refl
-lent_alike (refused bad_check n t) lent = refl
-lent_alike (refused bad_time n t) lent = refl
+lent_alike (refused y n t) lent = refl
 
-pub numbers_lent : (s lent : List ℕ) (room : ℕ) (q : Readout) → q ≡ answer s room → numbers_by q.reading q.beside lent ≡ numbers_after (reading_of numbered s room) lent
-unfolding answer
-numbers_lent s lent room q e =
-    ap (λ (q : Readout). numbers_by q.reading q.beside lent) e ∙ rw (reading_same s room) (lent_alike (reading_of family s room) lent)
+-- ---- the reader, lent enough numbers
+module _ (s word ns : List ℕ) (h : 42 ≤ length ns) where
+  enough_read : read_from s (length word) (length ns) ≡ reading_of numbered s (length word)
+  unfolding read_from
+  enough_read = rw (le-leb 42 (length ns) h) refl
+
+  put_alike : (y : Reading family) (w : List ℕ) → after_reading numbered (as_numbers y) w word ≡ after_reading family y w word
+  put_alike (done e n t) w = refl
+  put_alike (refused y n t) w = refl
+
+  pub enough_word : lent_after_read s word ≡ word_after s word (length ns)
+  unfolding lent_after_read read_into word_after
+  enough_word = rw (enough_read, reading_same s (length word)) (sym (put_alike (reading_of family s (length word)) (word_in (receive_of 1 s))))
+
+  module _ (q : Result navic.Reading ReadRefusal) (e : q ≡ answer s (length word)) where
+    pub enough_value : line_of q ≡ line_of_numbers (read_from s (length word) (length ns))
+    enough_value = ap line_of e ∙ sym (line_read s (length word)) ∙ sym (ap line_of_numbers enough_read)
+
+    pub enough_numbers : numbers_by q ns ≡ numbers_after (read_from s (length word) (length ns)) ns
+    unfolding answer
+    enough_numbers =
+        ap (λ (q : Result navic.Reading ReadRefusal). numbers_by q ns) e
+        ∙ rw (enough_read, reading_same s (length word)) (lent_alike (reading_of family s (length word)) ns)
 
 -- ---- the decoder alone
--- what was copied is what came, and its nearest word has 286 bits
-module _ (coded : List ℕ) (long : length coded ≡ 584) where
-  pub all_copied : {all : List ℕ} → all ≡ copied (replicate 584 0) coded (length coded) → all ≡ coded
-  all_copied e = e ∙ ap (copied (replicate 584 0) coded) long ∙ copied_whole coded 584 (omega arith)
-
-  pub word_long : {bits all : List ℕ} → bits ≡ decode 1 286 all → all ≡ coded → length bits ≡ 286
-  word_long e f = ap length (e ∙ ap (decode 1 286) f) ∙ (nearest_decode 1 286 coded (long ∙ refl)).long
-
-  pub word_put : {bits all : List ℕ} (lent : List ℕ) → bits ≡ decode 1 286 all → all ≡ coded → copied lent bits (length bits) ≡ decode 1 286 coded ++ drop 286 lent
-  word_put {bits} lent e f =
-      let n : length bits ≡ 286 = word_long e f in
-      ap₂ ◌++◌ (take_all (length bits) bits (omega arith) ∙ e ∙ ap (decode 1 286) f) (ap (λ (k : ℕ). drop k lent) n)
-
 module _ (coded lent : List ℕ) where
   -- the answer, and the lent bytes afterwards
-  abbrev Decodes : Decoded → List ℕ → Type 0
-  Decodes r later = (r ≡ nearest_answer coded (length lent)) × (later ≡ nearest_into coded lent)
+  pub not_584 : (length coded ≡ 584 → ⊥) → record { refusal = 1; corrected = 0 } ≡ nearest_answer coded (length lent)
+  unfolding nearest_answer
+  not_584 h = rw (ne_eqb (length coded) 584 h) refl
 
-  pub not_584 : (length coded ≡ 584 → ⊥) → Decodes (record { refusal = 1; corrected = 0 }) lent
-  unfolding nearest_answer nearest_into
-  not_584 h = let e = ne_eqb (length coded) 584 h in (rw e refl, rw e refl)
+  pub not_584_after : (length coded ≡ 584 → ⊥) → lent ≡ nearest_into coded lent
+  unfolding nearest_into
+  not_584_after h = rw (ne_eqb (length coded) 584 h) refl
 
   module _ (long : length coded ≡ 584) where
-    pub word_room : length lent < 286 → Decodes (record { refusal = 2; corrected = 0 }) lent
-    unfolding nearest_answer nearest_into
-    word_room h = let e = eq-eqb (length coded) 584 long in let f = lt-leb 286 (length lent) h in (rw (e, f) refl, rw (e, f) refl)
+    pub word_room : length lent < 286 → record { refusal = 2; corrected = 0 } ≡ nearest_answer coded (length lent)
+    unfolding nearest_answer
+    word_room h = rw (eq-eqb (length coded) 584 long, lt-leb 286 (length lent) h) refl
 
     pub word_room_after : length lent < 286 → lent ≡ nearest_into coded lent
-    word_room_after h = (word_room h).1
+    unfolding nearest_into
+    word_room_after h = rw (eq-eqb (length coded) 584 long, lt-leb 286 (length lent) h) refl
 
     module _ (enough : 286 ≤ length lent) where
-      pub bad_symbol_lem : at_most 1 coded ≡ false → Decodes (record { refusal = 3; corrected = 0 }) lent
-      unfolding nearest_answer nearest_into
-      bad_symbol_lem h =
-          let e = eq-eqb (length coded) 584 long in
-          let f = le-leb 286 (length lent) enough in
-          (rw (e, f, h) refl, rw (e, f, h) refl)
+      pub bad_symbols : at_most 1 coded ≡ false → record { refusal = 3; corrected = 0 } ≡ nearest_answer coded (length lent)
+      unfolding nearest_answer
+      bad_symbols h = rw (eq-eqb (length coded) 584 long, le-leb 286 (length lent) enough, h) refl
 
-      pub decoded : {n : ℕ} {later : List ℕ} → at_most 1 coded ≡ true → n ≡ cost 1 coded (decode 1 286 coded) → later ≡ decode 1 286 coded ++ drop 286 lent → Decodes (record { refusal = 0; corrected = n }) later
-      unfolding nearest_answer nearest_into
-      decoded h count put =
-          let e = eq-eqb (length coded) 584 long in
-          let f = le-leb 286 (length lent) enough in
-          (rw (e, f, h) (λ i. record { refusal = 0; corrected = count i }), rw (e, f, h) put)
+      pub bad_symbols_after : at_most 1 coded ≡ false → lent ≡ nearest_into coded lent
+      unfolding nearest_into
+      bad_symbols_after h = rw (eq-eqb (length coded) 584 long, le-leb 286 (length lent) enough, h) refl
+
+      pub decoded : at_most 1 coded ≡ true → record { refusal = 0; corrected = cost 1 coded (decode 1 286 coded) } ≡ nearest_answer coded (length lent)
+      unfolding nearest_answer
+      decoded h = rw (eq-eqb (length coded) 584 long, le-leb 286 (length lent) enough, h) refl
+
+      pub decoded_after : at_most 1 coded ≡ true → decode 1 286 coded ++ drop 286 lent ≡ nearest_into coded lent
+      unfolding nearest_into
+      decoded_after h = rw (eq-eqb (length coded) 584 long, le-leb 286 (length lent) enough, h) refl
+
+-- ---- pairing and the idle pattern
+module _ (zs : List ℤ) where
+  unfit : None ≡ record_in zs → fitting zs ≡ false
+  unfolding record_in
+  unfit e = go (fitting zs) e
+    where
+      go : (t : Bool) → None ≡ pick t (Some (record_of zs)) None → t ≡ false
+      go true e = absurd (cc)
+      go false e = refl
+
+  module _ (r : Record) (e : Some r ≡ record_in zs) where
+    told_by : (t : Bool) → Some r ≡ pick t (Some (record_of zs)) None → (t ≡ true) × (r ≡ record_of zs)
+    told_by true e = (refl, cc)
+    told_by false e = absurd (cc)
+
+    fits : (fitting zs ≡ true) × (r ≡ record_of zs)
+    unfolding record_in
+    fits = told_by (fitting zs) e
+
+  pub idle_unfit : None ≡ record_in zs → false ≡ idle_of_numbers zs
+  unfolding idle_of_numbers
+  idle_unfit e = rw (unfit e) refl
+
+  pub idle_told : (r : Record) → Some r ≡ record_in zs → idle_in r ≡ idle_of_numbers zs
+  unfolding idle_of_numbers
+  idle_told r e = let f = fits r e in rw (f.0) (ap idle_in f.1)
+
+module _ (zs ys : List ℤ) where
+  pub first_unfit : None ≡ record_in zs → None ≡ pair_in zs ys
+  unfolding pair_in
+  first_unfit e = rw (unfit zs e) refl
+
+  pub second_unfit : None ≡ record_in ys → None ≡ pair_in zs ys
+  unfolding pair_in
+  second_unfit e = rw (unfit ys e, both_false (fitting zs)) refl
+
+  pub pair_told : (r s : Record) → Some r ≡ record_in zs → Some s ≡ record_in ys → pair_of r s ≡ pair_in zs ys
+  unfolding pair_in
+  pair_told r s e f = let one = fits zs r e in let two = fits ys s f in rw (one.0, two.0) (ap₂ pair_of one.1 two.1)

@@ -16,7 +16,7 @@ use Rattle.convolution.specs.Trellis.{decode}
 use Rattle.convolution.proofs.Corrected.{hard_cost}
 use Rattle.convolution.proofs.Decoded.{nearest_decode}
 use Rattle.fields.specs.Patterns.{pattern}
-use Rattle.link.specs.Link.{receive_of}
+use Rattle.link.specs.Link.{receive_of, word_in}
 use Rattle.demands.specs.Family.{Why, done, refused, packed, writing_of, write_into, symbols_of}
 use Rattle.navic_c.specs.Numbers.{numbered}
 use Rattle.navic_c.specs.Calls.{int64, read_from, word_after, numbers_after, written_of, nearest_refusal, nearest_answer, nearest_into}
@@ -31,7 +31,7 @@ module _ (s word numbers : List ℕ) where
   pub record Put (zs : List ℤ) : Type 0 where
     pub says : int64 (take 42 later) ≡ zs
     pub beyond : drop 42 later ≡ drop 42 numbers
-    pub bytes : word_after s word (length numbers) ≡ packed (receive_of 1 s).word ++ drop 36 word
+    pub bytes : word_after s word (length numbers) ≡ packed (word_in (receive_of 1 s)) ++ drop 36 word
 
   pub lent_read : (zs : List ℤ) (n : ℕ) (t : Bool) → read_from s (length word) (length numbers) ≡ done zs n t → Put zs
   unfolding word_after

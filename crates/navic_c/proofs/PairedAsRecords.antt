@@ -1,5 +1,6 @@
 -- Pairing and the idle pattern, asked of records by their numbers, answer as they do of the records. Assumes nothing.
 use mathlib.Core.Path.{◌≡◌, refl, sym, ap, ap₂, ◌∙◌}
+use Rattle.std.specs.Prelude.{None}
 use mathlib.Core.Bool.{Bool, true, false}
 use mathlib.Core.List.{List, ◌++◌}
 use Prim.Native.Nat.{ℕ, ◌+◌, ◌<◌}
@@ -13,7 +14,7 @@ use Rattle.bits.proofs.Both.{both_false}
 use Rattle.fields.specs.declared.Layout.{Layout}
 use Rattle.fields.specs.Table.{rows_of}
 use Rattle.fields.specs.Fields.{body_of, fault_in}
-use Rattle.ephemeris.specs.Pairing.{sound, fit, none, answer, pair_of, idle_in}
+use Rattle.ephemeris.specs.Pairing.{sound, fit, pair_of, idle_in}
 use Rattle.ephemeris.proofs.Alone.{fault_alone}
 use Rattle.message.specs.declared.Slot.{Slot}
 use Rattle.message.specs.declared.Slot.TheVariants as slot
@@ -28,7 +29,7 @@ use Rattle.message.proofs.Laws.{numbers_long, record_back}
 use Rattle.message.proofs.Return.{Named, layout_back}
 use Rattle.weektime.specs.Time.{towc_refused}
 use Rattle.navic_c.specs.Numbers.{layout_in, rows_in, body_from}
-use Rattle.navic_c.specs.Calls.{fitting, record_of, paired_of, idle_of_numbers}
+use Rattle.navic_c.specs.Calls.{fitting, record_of, pair_in, paired_as, paired_of, idle_of_numbers}
 use Rattle.navic_c.proofs.Padding.{body_ahead, fault_ahead}
 
 -- ---- a record's numbers, whatever stands behind them
@@ -93,22 +94,22 @@ module _ (a : Subframe1) (b : Subframe2) (rest rest' : List ℤ) where
   abbrev two : Record
   two = case.Subframe2 b
 
-  unfit : both (sound one) (sound two) ≡ false → answer none ≡ pair_of one two
+  unfit : both (sound one) (sound two) ≡ false → None ≡ pair_of one two
   unfolding pair_of fit
   unfit e = rw (e, both_false (eqb a.toc b.toe)) refl
 
   pair_by : (s t : Bool) → eqb (fault_of one nothing) 0 ≡ s → eqb (fault_of two nothing) 0 ≡ t
-      → pick (both s t) (pair_of (record_of (numbers_then one rest)) (record_of (numbers_then two rest'))) (answer none) ≡ pair_of one two
+      → pick (both s t) (pair_of (record_of (numbers_then one rest)) (record_of (numbers_then two rest'))) None ≡ pair_of one two
   pair_by true true p q =
       ap₂ pair_of (record_alone one rest refl (eqb-true (fault_of one nothing) 0 p)) (record_alone two rest' refl (eqb-true (fault_of two nothing) 0 q))
   pair_by true false p q = unfit (rw (unsound two q) (both_false (sound one)))
   pair_by false t p q = unfit (rw (unsound one p) refl)
 
   pub pair_as_records : length (numbers_then one rest) ≡ 42 → length (numbers_then two rest') ≡ 42
-      → paired_of (numbers_then (case.Subframe1 a) rest) (numbers_then (case.Subframe2 b) rest') ≡ pair_of (case.Subframe1 a) (case.Subframe2 b)
-  unfolding paired_of
+      → paired_of (numbers_then (case.Subframe1 a) rest) (numbers_then (case.Subframe2 b) rest') ≡ paired_as (pair_of (case.Subframe1 a) (case.Subframe2 b))
+  unfolding paired_of pair_in
   pair_as_records p q =
-      rw (fitting_alone one rest refl p, fitting_alone two rest' refl q) (pair_by (eqb (fault_of one nothing) 0) (eqb (fault_of two nothing) 0) refl refl)
+      rw (fitting_alone one rest refl p, fitting_alone two rest' refl q) (ap paired_as (pair_by (eqb (fault_of one nothing) 0) (eqb (fault_of two nothing) 0) refl refl))
 
 -- ---- the idle pattern
 -- subframes 1 and 2 have no message ID

@@ -1,5 +1,6 @@
 -- What is read as numbers is what is read as a record: its numbers, with zeros behind them. Assumes nothing.
 use mathlib.Core.Path.{◌≡◌, refl, sym, ap, ◌∙◌}
+use Rattle.std.specs.Prelude.{Result, Ok, Err}
 use mathlib.Core.Bool.{Bool, true, false}
 use mathlib.Core.List.{List}
 use Prim.Native.Nat.{ℕ, ◌+◌, ◌-◌}
@@ -9,8 +10,9 @@ use lib.ListN.{length, take, replicate}
 use Rattle.bits.specs.Lists.{pick}
 use Rattle.fields.specs.Table.{rows_of}
 use Rattle.fields.specs.Fields.{values}
-use Rattle.link.specs.declared.Answer.{Answer}
-use Rattle.link.specs.declared.Answer.TheVariants as link
+use Rattle.link.specs.declared.LinkRefusal.{LinkRefusal}
+use Rattle.link.specs.declared.LinkRefusal.TheVariants as link
+use Rattle.link.specs.declared.Received.{Received}
 use Rattle.link.specs.Link.{receive_of}
 use Rattle.message.specs.declared.Slot.{Slot}
 use Rattle.message.specs.declared.Slot.TheVariants as slot
@@ -20,7 +22,7 @@ use Rattle.message.specs.declared.Beside.{Beside}
 use Rattle.message.specs.Numbers.{unsigned, slot_id}
 use Rattle.message.specs.Records.{from_body, numbers_of, layout_by, subframe_id, message_id, towc_in, id_of, message_id_of}
 use Rattle.message.proofs.Reading.{reads}
-use Rattle.demands.specs.Family.{Reading, Why, done, refused, not_of_600, little_room, bad_symbol, no_sync, no_word, is_idle, bad_check, bad_time, by_time, by_link, reading_of}
+use Rattle.demands.specs.Family.{Reading, Why, done, refused, not_of_600, little_room, bad_symbol, no_sync, no_word, is_idle, bad_check, bad_time, by_time, by_check, by_link, reading_of}
 use Rattle.navic.specs.Navic as navic
 use Rattle.navic.specs.Navic.{family, quality, line_from, read_of, answer}
 use Rattle.weektime.specs.Time.{towc_refused}
@@ -52,21 +54,24 @@ time_by body n t = rw (time_same body) (go (towc_refused (towc_in (from_body bod
     go true = refl
     go false = λ i. done (sym (record_numbers body) i) n t
 
-link_by : (a : Answer) (w : List ℕ) → by_link numbered a w ≡ as_numbers (by_link family a w)
-link_by link.BadSymbol w = refl
-link_by link.NoSync w = refl
-link_by link.NoWord w = refl
-link_by (link.Word n t true) w = time_by (take 262 w) n t
-link_by (link.Word n t false) w = refl
+check_by : (y : Bool) (w : List ℕ) (n : ℕ) (t : Bool) → by_check numbered y w n t ≡ as_numbers (by_check family y w n t)
+check_by true w n t = time_by (take 262 w) n t
+check_by false w n t = refl
+
+link_by : (y : Result Received LinkRefusal) → by_link numbered y ≡ as_numbers (by_link family y)
+link_by (Err link.BadSymbol) = refl
+link_by (Err link.NoSync) = refl
+link_by (Err link.NoWord) = refl
+link_by (Ok r) = check_by r.agrees r.word r.corrected r.turned_over
 
 pub reading_same : (s : List ℕ) (room : ℕ) → reading_of numbered s room ≡ as_numbers (reading_of family s room)
 unfolding reading_of
 reading_same s room = go (eqb (length s) 600) (leb 36 room)
   where
     go : (a b : Bool)
-        → pick a (pick b (by_link numbered (receive_of 1 s).answer (receive_of 1 s).word) (refused little_room 0 false)) (refused not_of_600 0 false)
-        ≡ as_numbers (pick a (pick b (by_link family (receive_of 1 s).answer (receive_of 1 s).word) (refused little_room 0 false)) (refused not_of_600 0 false))
-    go true true = link_by (receive_of 1 s).answer (receive_of 1 s).word
+        → pick a (pick b (by_link numbered (receive_of 1 s)) (refused little_room 0 false)) (refused not_of_600 0 false)
+        ≡ as_numbers (pick a (pick b (by_link family (receive_of 1 s)) (refused little_room 0 false)) (refused not_of_600 0 false))
+    go true true = link_by (receive_of 1 s)
     go true false = refl
     go false b = refl
 
@@ -112,24 +117,27 @@ time_bare : (l : Bool) (body : List ℕ) (n : ℕ) (t : Bool) → Bare (pick l (
 time_bare true body n t = tt
 time_bare false body n t = tt
 
-link_bare : (a : Answer) (w : List ℕ) → Bare (by_link family a w)
-link_bare link.BadSymbol w = (refl, refl)
-link_bare link.NoSync w = (refl, refl)
-link_bare link.NoWord w = (refl, refl)
-link_bare (link.Word n t true) w = time_bare (family.untimely (from_body (take 262 w))) (take 262 w) n t
-link_bare (link.Word n t false) w = check_bare (family.idle w) n t
+word_bare : (y : Bool) (w : List ℕ) (n : ℕ) (t : Bool) → Bare (by_check family y w n t)
+word_bare true w n t = time_bare (family.untimely (from_body (take 262 w))) (take 262 w) n t
+word_bare false w n t = check_bare (family.idle w) n t
+
+link_bare : (y : Result Received LinkRefusal) → Bare (by_link family y)
+link_bare (Err link.BadSymbol) = (refl, refl)
+link_bare (Err link.NoSync) = (refl, refl)
+link_bare (Err link.NoWord) = (refl, refl)
+link_bare (Ok r) = word_bare r.agrees r.word r.corrected r.turned_over
 
 pub reading_bare : (s : List ℕ) (room : ℕ) → Bare (reading_of family s room)
 unfolding reading_of
 reading_bare s room = go (eqb (length s) 600) (leb 36 room)
   where
     go : (a b : Bool)
-        → Bare (pick a (pick b (by_link family (receive_of 1 s).answer (receive_of 1 s).word) (refused little_room 0 false)) (refused not_of_600 0 false))
-    go true true = link_bare (receive_of 1 s).answer (receive_of 1 s).word
+        → Bare (pick a (pick b (by_link family (receive_of 1 s)) (refused little_room 0 false)) (refused not_of_600 0 false))
+    go true true = link_bare (receive_of 1 s)
     go true false = (refl, refl)
     go false b = (refl, refl)
 
-pub line_same : (y : Reading family) → Bare y → line_of_numbers (as_numbers y) ≡ navic.line_of (read_of y).reading
+pub line_same : (y : Reading family) → Bare y → line_of_numbers (as_numbers y) ≡ navic.line_of (read_of y)
 line_same (done e n t) z =
     ap (λ (id : ℕ). line_from 0 (quality n t) (id_of e.«record» + 1) (towc_in e.«record») id) (id_told e.«record» e.beside)
 line_same (refused not_of_600 n t) z = λ i. line_from 1 (quality (z.0 i) (z.1 i)) 0 0 0
@@ -142,6 +150,6 @@ line_same (refused bad_check n t) z = refl
 line_same (refused bad_time n t) z = refl
 
 -- the line of what is read as numbers is the line of what crate navic's reader answers
-pub line_read : (s : List ℕ) (room : ℕ) → line_of_numbers (reading_of numbered s room) ≡ navic.line_of (answer s room).reading
+pub line_read : (s : List ℕ) (room : ℕ) → line_of_numbers (reading_of numbered s room) ≡ navic.line_of (answer s room)
 unfolding answer
 line_read s room = ap line_of_numbers (reading_same s room) ∙ line_same (reading_of family s room) (reading_bare s room)

@@ -23,7 +23,7 @@ use Rattle.fields.proofs.Halves.{half_small, whole_small}
 use Rattle.fields.proofs.Rules.{Tiles, tiled}
 use Rattle.framing.specs.Frame.{turned_if}
 use Rattle.link.specs.Promise.{altered_coded, Altered, Taken}
-use Rattle.link.specs.Link.{sent_of, receive_of}
+use Rattle.link.specs.Link.{sent_of, receive_of, word_in}
 use Rattle.message.proofs.Laws.{no_fault}
 use Rattle.demands.specs.Refusals.{Given}
 use Rattle.demands.specs.Family.{Reading, done, refused, reader_conditions, writer_conditions, reading_number, reading_of, writing_of, symbols_of}
@@ -79,8 +79,8 @@ takes zs z room enough = rw (le-leb 600 room enough) z
 pub record WrittenAgain (s : List ℕ) (zs : List ℤ) (n : ℕ) (t : Bool) : Type 0 where
   pub accepted : refusal zs ≡ 0
   pub taken : (room : ℕ) → 600 ≤ room → (written_of zs room).refusal ≡ 0
-  pub symbols : symbols_of numbered zs ≡ sent_of (receive_of 1 s).word
-  pub nearest : Taken s t (receive_of 1 s).word n true
+  pub symbols : symbols_of numbered zs ≡ sent_of (word_in (receive_of 1 s))
+  pub nearest : Taken s t (word_in (receive_of 1 s)) n true
 
 pub write_again : (s : List ℕ) (bytes count n : ℕ) (t : Bool) (zs : List ℤ) → read_from s bytes count ≡ done zs n t → WrittenAgain s zs n t
 unfolding read_from

@@ -5,15 +5,16 @@ use mathlib.Core.List.{List, [], ◌∷◌, ◌++◌, map, append-nil}
 use Prim.Native.Nat.{ℕ, zero, suc, ◌-◌, ◌^◌, ◌≤◌, ◌<◌}
 use native.Mathlib.Decide.{dec_le}
 use native.Mathlib.Omega.{arith}
-use borrow.Author.Tests.{lt-ltb, le-ltb, ne_eqb, lt-leb}
-use lib.Dec.{leb, ltb}
+use borrow.Author.Tests.{ltb-false, ne_eqb}
+use lib.Dec.{eqb, ltb}
 use lib.IntN.{ℤ, pos, negsuc}
 use lib.ListN.{length, drop, replicate, length-map}
 use lib.Signed.{mag}
+use Rattle.std.specs.List.{list_all}
 use mir.Facts.{sfits_to_z, of_z-to_z}
 use mir.Syntax.{w64}
 use mir.Val.{to_z}
-use Rattle.bits.specs.Lists.{at, both, at_most}
+use Rattle.bits.specs.Lists.{at, both}
 use Rattle.fields.specs.declared.Layout.{Layout}
 use Rattle.fields.specs.declared.Row.{Row}
 use Rattle.fields.specs.Fields.{body_of, fault_in}
@@ -26,19 +27,16 @@ use Rattle.navic_c.specs.Numbers.{is_zero, all_zero}
 use Rattle.navic_c.specs.Calls.{int64, Words}
 
 -- ---- one number
-pub natural_low : (n : ℕ) → n < 2 ^ 63 → n ≡ nat (to_z w64 n)
-natural_low n h = rw (lt-ltb n (2 ^ 63) h) refl
+-- whether all 64 bits are 0
+abbrev pub zero? : ℕ → Bool
+zero? n = eqb n 0
 
-pub natural_high : (n : ℕ) → 2 ^ 63 ≤ n → 0 ≡ nat (to_z w64 n)
-natural_high n h = rw (le-ltb n (2 ^ 63) h) refl
-
-zero_test : (n : ℕ) → leb n 0 ≡ is_zero (to_z w64 n)
-zero_test zero = refl
-zero_test (suc n) = lt-leb (suc n) 0 (omega arith) ∙ sym (go (ltb (suc n) (2 ^ 63)) refl)
+zero_test : (n : ℕ) → zero? n ≡ is_zero (to_z w64 n)
+zero_test n = go (ltb n (2 ^ 63)) refl
   where
-    go : (t : Bool) → ltb (suc n) (2 ^ 63) ≡ t → is_zero (to_z w64 (suc n)) ≡ false
-    go true e = rw e (ne_eqb (suc n) 0 (λ (z : suc n ≡ 0). omega arith))
-    go false e = rw e refl
+    go : (t : Bool) → ltb n (2 ^ 63) ≡ t → zero? n ≡ is_zero (to_z w64 n)
+    go true e = rw e refl
+    go false e = rw e (ne_eqb n 0 (λ (z : n ≡ 0). omega (arith, ltb-false n (2 ^ 63) e)))
 
 -- ---- at a place
 int64_at : (ns : List ℕ) (i : ℕ) → nth (int64 ns) i ≡ to_z w64 (at ns i)
@@ -91,8 +89,8 @@ pub fault_words : (l : Layout) (ns : List ℕ) → Words ns → pattern_fault (r
 fault_words l ns w = ap (pattern_fault (rows_of l)) (sym (patterns_words ns w)) ∙ pattern_fault_lem l (int64 ns) (words_held l ns w)
 
 -- those from a place on are all 0
-pub rest_words : (k : ℕ) (ns : List ℕ) → at_most 0 (drop k ns) ≡ all_zero (drop k (int64 ns))
-unfolding at_most all_zero
+pub rest_words : (k : ℕ) (ns : List ℕ) → list_all zero? (drop k ns) ≡ all_zero (drop k (int64 ns))
+unfolding all_zero
 rest_words zero [] = refl
 rest_words zero (n ∷ ns) = ap₂ both (zero_test n) (rest_words zero ns)
 rest_words (suc k) [] = refl

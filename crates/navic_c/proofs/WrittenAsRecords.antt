@@ -12,6 +12,7 @@ use Rattle.bits.proofs.Both.{both_false}
 use Rattle.message.specs.declared.Record.{Record}
 use Rattle.message.specs.declared.Record.TheVariants as case
 use Rattle.message.specs.declared.Beside.{Beside}
+use Rattle.message.specs.declared.Entry.{Entry}
 use Rattle.message.specs.Numbers.{unsigned, slot_id}
 use Rattle.message.specs.Records.{among, layout_of, numbers_of, to_body, id_refused, record_fault, fault_of, used_by, unused_zero, towc_in}
 use Rattle.message.proofs.Choice.{neither}
@@ -19,12 +20,15 @@ use Rattle.message.proofs.Laws.{numbers_long}
 use Rattle.message.proofs.Return.{Named, layout_back}
 use Rattle.bits.specs.Lists.{pick}
 use Rattle.demands.specs.Family.{writing_of, write_into, symbols_of}
-use Rattle.navic.specs.Navic.{entry_of, entry_refusal, entry_beside, written_by, written_number, written_beside, write_answer, lent_after_write}
+use Rattle.navic.specs.Navic.{entry_refusal, entry_beside, written_by, write_answer, lent_after_write}
 use Rattle.navic_c.specs.declared.Written.{Written}
 use Rattle.weektime.specs.Time.{towc_refused}
 use Rattle.navic_c.specs.Numbers.{padded, layout_in, body_from, id_above, untimely, fault_from, refusal, numbered}
-use Rattle.navic_c.specs.Calls.{written_of}
+use Rattle.navic_c.specs.Calls.{written_of, judged_as}
 use Rattle.navic_c.proofs.Padding.{padded_42, padded_body, padded_fault}
+
+abbrev pub entry_of : Record → Beside → Entry
+entry_of r b = record { «record» = r; beside = b }
 
 -- the numbers zs say of the record r, with b beside it, all that the writer asks
 pub record Says (zs : List ℤ) (r : Record) (b : Beside) : Type 0 where
@@ -106,18 +110,18 @@ module _ (r : Record) (b : Beside) (d : id_refused r ≡ false) (u : unused_zero
   by_tests : (room i l f : Bool) (k : ℕ)
       → let n = pick room (pick i 9 (pick l 7 (pick {A = ℕ} f 0 8))) 2 in
       let w = written_by n (pick (eqb (pick i 9 (pick l 7 (pick {A = ℕ} f 0 8))) 8) k 0) in
-      ◌≡◌ {A = Written} (record { refusal = n; first_bit = pick (eqb n 8) k 0 }) (record { refusal = written_number w; first_bit = written_beside w })
+      ◌≡◌ {A = Written} (record { refusal = n; first_bit = pick (eqb n 8) k 0 }) (judged_as w)
   by_tests false i l f k = refl
   by_tests true true l f k = refl
   by_tests true false true f k = refl
   by_tests true false false true k = refl
   by_tests true false false false k = refl
 
-  pub answered_alike : (room : ℕ) → written_of zs room ≡ record { refusal = written_number (write_answer r b room); first_bit = written_beside (write_answer r b room) }
+  pub answered_alike : (room : ℕ) → written_of zs room ≡ judged_as (write_answer (entry_of r b) room)
   unfolding written_of writing_of write_answer entry_beside entry_refusal
   answered_alike room =
       rw (refused_alike, fault_written) (by_tests (leb 600 room) (id_refused r) (towc_refused (towc_in r)) (eqb (fault_of r b) 0) (fault_of r b))
 
-  pub lent_alike : (lent : List ℕ) → write_into numbered zs lent ≡ lent_after_write r b lent
+  pub lent_alike : (lent : List ℕ) → write_into numbered zs lent ≡ lent_after_write (entry_of r b) lent
   unfolding write_into writing_of symbols_of lent_after_write
   lent_alike lent = rw (refused_alike, body_written) refl

@@ -1,68 +1,50 @@
 // What is put into the lent numbers and bytes.
-ghost use Rattle.std.specs.Prelude.{◌≡◌, ◌++◌, ◌≤◌, length, take, drop};
-ghost use Rattle.convolution.specs.Code.{cost};
-ghost use Rattle.convolution.specs.Trellis.{decode};
+ghost use Rattle.std.specs.Prelude.{◌≡◌, ◌≤◌, length};
 ghost use Rattle.demands.specs.Family.{reading_of};
 ghost use Rattle.navic_c.specs.Numbers.{numbered};
-ghost use Rattle.navic_c.specs.Calls.{Few, line_of_numbers, numbers_by};
+ghost use Rattle.navic_c.specs.Calls.{line_of_numbers, numbers_by, decoded_as, nearest_answer, nearest_into};
 
-use message::Beside;
-use navic::{Numbers, Reading};
-
-// Puts the first 42 numbers of `from` at the start of `to`.
-pub fn copy(to: &mut [u64], from: &[u64])
-    requires { (42 ≤ length from.now) × (42 ≤ length to.old) }
-    ensures to_after { to.new ≡ take 42 from.now ++ drop 42 to.old }
-    ensures few { Few from.now 42 }
-{
-    let mut i = 0;
-    while i < 42 {
-        let n = from[i];
-        to[i] = n;
-        i += 1;
-    }
-}
-
-// Puts the bytes of `from` at the start of `to`.
-pub fn copy_bytes(from: &[u8], to: &mut [u8])
-    requires { length from.now ≤ length to.old }
-    ensures { to.new ≡ take (length from.now) from.now ++ drop (length from.now) to.old }
-{
-    to[..from.len()].copy_from_slice(from);
-}
+use crate::DecodeRefusal;
+use navic::{Numbers, ReadRefusal, Reading};
 
 // The line where too few numbers are lent: 1 for a wrong length, else 2.
 pub fn no_room(symbols: &[u8]) -> Numbers
     ensures { result ≡ line_of_numbers (reading_of numbered symbols.now 0) }
 {
     if symbols.len() != 600 {
-        return navic::line(Reading::Length);
+        return navic::line(Err(ReadRefusal::Length));
     }
-    navic::line(Reading::Room)
+    navic::line(Err(ReadRefusal::Room))
 }
 
 // Done, the record's numbers are put into the first 42 lent.
-pub fn lend(reading: Reading, beside: Beside, numbers: &mut [u64])
+pub fn lend(read: Result<Reading, ReadRefusal>, numbers: &mut [u64])
     requires { 42 ≤ length numbers.old }
-    ensures { numbers.new ≡ numbers_by reading beside numbers.old }
+    ensures { numbers.new ≡ numbers_by read numbers.old }
 {
-    let Reading::Done(record, _) = reading else {
-        return;
-    };
-    let table = message::table_numbers(record, beside);
-    copy(numbers, &table);
+    if let Ok(reading) = read {
+        let table = reading.entry.numbers();
+        numbers[..42].copy_from_slice(&table);
+    }
 }
 
-// The nearest word of 584 coded symbols, put into the first 286 bytes lent, and its corrected count.
-pub fn decode(coded: &[u8], word: &mut [u8]) -> u32
-    requires { (length coded.now ≡ 584) × (286 ≤ length word.old) }
-    ensures value { result ≡ cost 1 coded.now (decode 1 286 coded.now) }
-    ensures word_after { word.new ≡ decode 1 286 coded.now ++ drop 286 word.old }
+// The nearest word of 584 coded symbols, put into the first 286 bytes lent, and its corrected count. Refused, all that is lent stays.
+#[tactic(auto, using(crate::proofs::Answered::not_584, crate::proofs::Answered::not_584_after, crate::proofs::Answered::word_room, crate::proofs::Answered::word_room_after, crate::proofs::Answered::bad_symbols, crate::proofs::Answered::bad_symbols_after, crate::proofs::Answered::decoded, crate::proofs::Answered::decoded_after))]
+pub fn decode(coded: &[u8], word: &mut [u8]) -> Result<u32, DecodeRefusal>
+    ensures value { decoded_as result ≡ nearest_answer coded.now (length word.old) }
+    ensures word_after { word.new ≡ nearest_into coded.now word.old }
 {
-    let mut all = [0u8; 584];
-    copy_bytes(coded, &mut all);
+    let Some(coded) = coded.as_array() else {
+        return Err(DecodeRefusal::Length);
+    };
+    if word.len() < 286 {
+        return Err(DecodeRefusal::Room);
+    }
+    if !framing::clean(1, coded) {
+        return Err(DecodeRefusal::BadSymbol);
+    }
     let mut bits = [0u8; 286];
-    let corrected = nearest::nearest(&all, &mut bits);
-    copy_bytes(&bits, word);
-    corrected as u32
+    let corrected = nearest::nearest(coded, &mut bits);
+    word[..286].copy_from_slice(&bits);
+    Ok(u32::from(corrected))
 }

@@ -5,7 +5,10 @@ use mathlib.Core.Logic.{◌⊎◌, inl, inr}
 use mathlib.Core.List.{List, [], ◌∷◌}
 use Prim.Native.Nat.{ℕ, ◌+◌, ◌-◌, ◌*◌, ◌/◌, ◌%◌, ◌<◌, ◌≤◌, min}
 use native.Mathlib.Omega.{arith}
-use borrow.Author.Tests.{lt-ltb, le-ltb, ne_eqb}
+use borrow.Author.Tests.{lt-ltb, le-ltb, ne_eqb, eqb-true, eqb-false}
+use lib.Dec.{eqb}
+use mir.Val.{bool_byte}
+use mathlib.Core.Bool.{Bool, true, false, not}
 use lib.ListN.{set}
 use Rattle.bits.proofs.Fill.{put_more}
 use Rattle.bits.proofs.Test.{agree, bit_cases}
@@ -14,14 +17,15 @@ use Rattle.convolution.proofs.Coded.{price_le}
 use Rattle.convolution.proofs.Survivor.{toll_le}
 use Rattle.convolution.specs.Code.{price}
 use Rattle.convolution.specs.Trellis.{out1, out2, Pair, toll, via, better, choice}
-use Rattle.nearest.specs.Steps.{second_less, Tolls, Halves, Under}
+use Rattle.nearest.specs.Steps.{second_less, even_toll, Tolls, Halves, Under}
 
 -- ---- the mark of a comparison
-pub mark_one : (a b n : ℕ) → n ≡ min a b → (n ≡ a → ⊥) → 1 ≡ second_less a b
-mark_one a b n e h = let l : b < a = omega arith in rw (lt-ltb b a l)
-
-pub mark_none : (a b n : ℕ) → n ≡ min a b → n ≡ a → 0 ≡ second_less a b
-mark_none a b n e h = let l : a ≤ b = omega arith in rw (le-ltb b a l)
+pub marked : (a b n k : ℕ) → n ≡ min a b → k ≡ bool_byte (not (eqb n a)) → k ≡ second_less a b
+marked a b n k e f = f ∙ go (eqb n a) refl
+  where
+    go : (t : Bool) → eqb n a ≡ t → bool_byte (not t) ≡ second_less a b
+    go true q = let l : a ≤ b = omega (arith, eqb-true n a q) in rw (le-ltb b a l) refl
+    go false q = let l : b < a = omega (arith, eqb-false n a q) in rw (lt-ltb b a l) refl
 
 -- ---- the price of a symbol that is written '0' or '1'
 pub symbol_none : (p b l : ℕ) → b < 49 → min l p ≡ price p (b - 48) l
@@ -50,6 +54,12 @@ second_written = agree (λ (j : ℕ). at seconds j - 48) (λ (j : ℕ). out2 (2 
 pub written : (p x y j c : ℕ) → j < 32 → c ≡ price p (at firsts j - 48) x + price p (at seconds j - 48) y → c ≡ toll p (x, y) (2 * j)
 unfolding toll
 written p x y j c h e = e ∙ rw (first_written j h, second_written j h)
+
+pub written_row : (p x y j c : ℕ) → y < 8 → j < 32 → c ≡ price p (at firsts j - 48) x + price p (at seconds j - 48) y → c ≡ even_toll p (8 * x + y) j
+written_row p x y j c l h e =
+    let a : (8 * x + y) / 8 ≡ x = omega arith in
+    let b : (8 * x + y) % 8 ≡ y = omega arith in
+    rw (a, b) (written p x y j c h e)
 
 -- ---- the newest bit and the oldest turn both symbols over
 record Turns (o : ℕ → ℕ) : Type 0 where

@@ -10,7 +10,7 @@ use Rattle.convolution.proofs.Survivor.{choice_bit}
 use Rattle.convolution.specs.Trellis.{metric, mark, survivor, pairs, decode}
 use Rattle.nearest.specs.Steps.{mark_at, Marked}
 
-pub record Way (marks word : List ℕ) (s t : ℕ) : Type 0 where
+pub record Way (marks : List (List ℕ)) (word : List ℕ) (s t : ℕ) : Type 0 where
   pub upto : t ≤ 286
   pub state : s < 64
   pub long : length word ≡ 286
@@ -20,7 +20,7 @@ from_start : (p n : ℕ) (l word : List ℕ) → length word ≡ n → reverse_a
 unfolding decode
 from_start p n l word e = ap (reverse_aux (take n (survivor p (pairs l (n + 6)) 0))) (drop_of_length-le word {i = n} (omega arith))
 
-pub way_first : {marks word : List ℕ} → length word ≡ 286 → Way marks word 0 286
+pub way_first : {marks : List (List ℕ)} {word : List ℕ} → length word ≡ 286 → Way marks word 0 286
 way_first {word = word} e = record { upto = omega arith; state = omega arith; long = e; rest = λ p l w. from_start p 286 l word e }
 
 stored : (word : List ℕ) (k v : ℕ) → k < length word → drop k (set word k v) ≡ v ∷ drop (suc k) word
@@ -35,7 +35,7 @@ unwind : (p : ℕ) (l word : List ℕ) (s t : ℕ) → t < length word
 unfolding survivor pairs
 unwind p l word s t h = rw (stored word t (mark p (pairs l (suc (t + 6))) s) h) refl
 
-pub way_more : {marks word : List ℕ} {s t k : ℕ} → t < 286 → k ≡ mark_at marks (t + 6) s → k ≤ 1 → Way marks word s (suc t)
+pub way_more : {marks : List (List ℕ)} {word : List ℕ} {s t k : ℕ} → t < 286 → k ≡ mark_at marks (t + 6) s → k ≤ 1 → Way marks word s (suc t)
     → Way marks (set word t k) (s / 2 + 32 * k) t
 way_more {word = word} {s} {t} {k} h e bit w =
     let st : s < 64 = w.state in
@@ -50,9 +50,9 @@ way_more {word = word} {s} {t} {k} h e bit w =
           rw q (sym (unwind p l word s t (omega arith)) ∙ (rw j at (w.rest p l m)));
     }
 
-pub way_last : {marks word : List ℕ} {s : ℕ} → Way marks word s 0 → (p : ℕ) (l : List ℕ) → Marked p l 292 marks → word ≡ decode p 286 l
+pub way_last : {marks : List (List ℕ)} {word : List ℕ} {s : ℕ} → Way marks word s 0 → (p : ℕ) (l : List ℕ) → Marked p l 292 marks → word ≡ decode p 286 l
 way_last w p l m = w.rest p l m
 
-pub marks_bits : {p n : ℕ} {l marks : List ℕ} → Marked p l n marks → (t s : ℕ) → t < n → s < 64 → mark_at marks t s ≤ 1
+pub marks_bits : {p n : ℕ} {l : List ℕ} {marks : List (List ℕ)} → Marked p l n marks → (t s : ℕ) → t < n → s < 64 → mark_at marks t s ≤ 1
 unfolding mark pairs
 marks_bits {p} {l = l} m t s h k = rw (m.each t s h k) (choice_bit (metric p (pairs l t)) _ s)

@@ -1,6 +1,6 @@
 -- What the decoder's inner functions say of their arrays, over the trellis of the crate convolution. Nobody has to believe anything of this file.
 -- Assumes nothing.
-use Rattle.std.specs.Prelude.{◌≡◌, List, ℕ, suc, ◌+◌, ◌*◌, ◌/◌, ◌%◌, ◌≤◌, ◌<◌, ltb, length, replicate}
+use Rattle.std.specs.Prelude.{◌≡◌, List, [], ℕ, suc, ◌+◌, ◌*◌, ◌/◌, ◌%◌, ◌≤◌, ◌<◌, ltb, get_or, replicate}
 use Rattle.bits.proofs.Fill.{Put}
 use Rattle.bits.specs.Lists.{at, pick}
 use Rattle.convolution.specs.Trellis.{toll, metric, mark, pairs}
@@ -28,21 +28,16 @@ pub record Halves (f : ℕ → ℕ) (n : ℕ) (even odd : List ℕ) : Type 0 whe
   pub evens : Put (λ (j : ℕ). f (2 * j)) 0 n (replicate 32 0) even
   pub odds : Put (λ (j : ℕ). f (2 * j + 1)) 0 n (replicate 32 0) odd
 
--- where the mark of the state s after t + 1 steps stands; and the mark
-abbrev pub mark_place : ℕ → ℕ → ℕ
-mark_place t s = 64 * t + s
+-- what f gives for each of the 64 states
+pub record Each (f : ℕ → ℕ) (l : List ℕ) : Type 0 where
+  pub each : (s : ℕ) → s < 64 → at l s ≡ f s
 
-abbrev pub mark_at : List ℕ → ℕ → ℕ → ℕ
-mark_at marks t s = at marks (mark_place t s)
-
--- the marks with those of a step put in
-pub record Kept (taken : List ℕ) (t : ℕ) (old new : List ℕ) : Type 0 where
-  pub long : length new ≡ length old
-  pub here : (s : ℕ) → s < 64 → mark_at new t s ≡ at taken s
-  pub before : (r s : ℕ) → r < t → s < 64 → mark_at new r s ≡ mark_at old r s
+-- the mark of the state s after t + 1 steps: each step has a row of marks
+abbrev pub mark_at : List (List ℕ) → ℕ → ℕ → ℕ
+mark_at marks t s = at (get_or marks t []) s
 
 -- the marks of the first n steps
-pub record Marked (p : ℕ) (l : List ℕ) (n : ℕ) (marks : List ℕ) : Type 0 where
+pub record Marked (p : ℕ) (l : List ℕ) (n : ℕ) (marks : List (List ℕ)) : Type 0 where
   pub each : (t s : ℕ) → t < n → s < 64 → mark_at marks t s ≡ mark p (pairs l (suc t)) s
 
 -- the bytes m and what was taken off them are the metrics after t steps
@@ -53,6 +48,6 @@ pub record Under (m : List ℕ) (n : ℕ) : Type 0 where
   pub each : (s : ℕ) → s < 64 → at m s ≤ n
 
 -- from the metrics `first` after `start` steps to those after t steps
-pub record Passed (p : ℕ) (l : List ℕ) (start t : ℕ) (first m marks : List ℕ) : Type 0 where
+pub record Passed (p : ℕ) (l : List ℕ) (start t : ℕ) (first m : List ℕ) (marks : List (List ℕ)) : Type 0 where
   pub held : (base : ℕ) → Held p l start first base → Held p l t m base
   pub marked : (base : ℕ) → Held p l start first base → Marked p l t marks

@@ -9,20 +9,23 @@ use native.Mathlib.Decide.{ℕ_discrete, dec_le}
 use native.Mathlib.Omega.{arith}
 use lib.ListN.{length}
 use borrow.Author.Tests.{le-leb, lt-leb, lt-ltb, le-ltb}
+use Rattle.std.specs.Prelude.{Option, Some, None, Ok, Err}
+use Rattle.std.specs.Option.{MatchOption, ok_or}
 use Rattle.bits.specs.Lists.{pick, part}
 use Rattle.framing.specs.Sync.{sync_of}
-use Rattle.recording.specs.declared.Found.{Found}
-use Rattle.recording.specs.Walk.{held, window_at, First, search, first_from, found_at, found_from}
+use Rattle.recording.specs.declared.WalkRefusal.{WalkRefusal}
+use Rattle.recording.specs.declared.WalkRefusal.TheVariants.{TooLong, NoWindow}
+use Rattle.recording.specs.Walk.{held, window_at, First, search, first_from, Found, found_at, found_from, number_in, start_in, after_in}
 
 -- the three things that the walk gives
 abbrev pub refused : Found
-refused = record { number = 1; start = 0; after = 0 }
+refused = Err TooLong
 
 abbrev pub done : ℕ → Found
-done p = record { number = 0; start = p; after = p + 600 }
+done p = Ok (record { start = p; after = p + 600 })
 
 abbrev pub none : ℕ → Found
-none n = record { number = 4; start = n; after = n }
+none n = Err (NoWindow n)
 
 -- each with when it is given from a place
 pub data Outcome (l : List ℕ) (from : ℕ) : Found → Type 0 where
@@ -141,26 +144,66 @@ module _ (l : List ℕ) where
       let end : First l from (length l) = record { earlier = λ k a b. w k a; stands = inr (refl, w) } in
       sym (found_none from h (first_one from (first_from l from) (length l) (first_found from) end))
 
+  -- ---- the first of the places up to 599 symbols before the end at which the sync rule holds is where the walk finds its window
+  abbrev pub Holds : ℕ → Type 0
+  Holds k = held (sync_of 1 (part l k 16)) ≡ true
+
+  abbrev pub Free : ℕ → Type 0
+  Free k = held (sync_of 1 (part l k 16)) ≡ false
+
+  free_behind : (from end : ℕ) → end ≡ length l - 599 → ((k : ℕ) → from ≤ k → k < end → Free k) → (k : ℕ) → from ≤ k → window_at l k ≡ false
+  free_behind from end last h k a = elim (dec_le (k + 600) (length l)) [
+    | yes i ↦ window_long k i ∙ h k a (omega arith)
+    | no n ↦ window_short k (omega arith)
+  ]
+
+  -- that first place, or that the rule holds at none
+  abbrev pub FirstHeld : ℕ → ℕ → Option ℕ → Type 0
+  FirstHeld from end r =
+      MatchOption r ((k : ℕ) → from ≤ k → k < end → Free k) (λ i. (from ≤ i) × (i < end) × Holds i × ((k : ℕ) → from ≤ k → k < i → Free k))
+
+  module _ (from end : ℕ) (short : length l ≤ 65536) (last : end ≡ length l - 599) where
+    pub none_held : (r : Option ℕ) (e : WalkRefusal) → FirstHeld from end r → ok_or r (NoWindow (length l)) ≡ Err e → Err e ≡ found_from l from
+    none_held None e h is =
+        let z : NoWindow (length l) ≡ e = (cc) in
+        rw (← z) (found_one from (none (length l)) (no_more short (free_behind from end last h)))
+    none_held (Some p) e h is = absurd (let z : ◌≡◌ {A = ℕ} 0 1 = (cc) in omega arith)
+
+    pub fits_held : (r : Option ℕ) (p : ℕ) → FirstHeld from end r → ok_or r (NoWindow (length l)) ≡ Ok p → p + 600 ≤ length l
+    fits_held None p h is = absurd (let z : ◌≡◌ {A = ℕ} 0 1 = (cc) in omega arith)
+    fits_held (Some i) p h is = let z : i ≡ p = (cc) in omega (arith, z, last, h.1)
+
+    pub done_held : (r : Option ℕ) (p : ℕ) → FirstHeld from end r → ok_or r (NoWindow (length l)) ≡ Ok p → done p ≡ found_from l from
+    done_held None p h is = absurd (let z : ◌≡◌ {A = ℕ} 0 1 = (cc) in omega arith)
+    done_held (Some i) p h is =
+        let z : i ≡ p = (cc) in
+        let fits : i + 600 ≤ length l = omega (arith, last, h.1) in
+        let first : First l from i = record {
+          earlier = λ k a b. window_long k (omega arith) ∙ h.3 k a b;
+          stands = inl (h.0, window_long i fits ∙ h.2);
+        } in
+        rw (← z) (found_one from (done i) (window short h.0 fits first))
+
   -- a start beyond the end is the same as a start at the end
   pub beyond : (from : ℕ) → length l ≤ from → found_from l from ≡ found_from l (length l)
   unfolding found_from
   beyond from h = rw (first_none from (omega arith), first_none (length l) (omega arith)) refl
 
   -- a step that is done goes forward, and ends 600 symbols after the window's start
-  pub forward : (from : ℕ) → (found_from l from).number ≡ 0
-      → (from ≤ (found_from l from).start) × ((found_from l from).after ≡ (found_from l from).start + 600)
+  pub forward : (from : ℕ) → number_in (found_from l from) ≡ 0
+      → (from ≤ start_in (found_from l from)) × (after_in (found_from l from) ≡ start_in (found_from l from) + 600)
   forward from = go (found_from l from) (found from)
     where
-      go : (f : Found) → Outcome l from f → f.number ≡ 0 → (from ≤ f.start) × (f.after ≡ f.start + 600)
+      go : (f : Found) → Outcome l from f → number_in f ≡ 0 → (from ≤ start_in f) × (after_in f ≡ start_in f + 600)
       go f (too_many h) e = absurd (omega arith)
       go f (window h a b w) e = (a, refl)
       go f (no_more h w) e = absurd (omega arith)
 
   -- between a place, such as a window's end, and the next window's start, or the recording's end, no window stands
-  pub between : (from k : ℕ) → from ≤ k → k < (found_from l from).start → window_at l k ≡ false
+  pub between : (from k : ℕ) → from ≤ k → k < start_in (found_from l from) → window_at l k ≡ false
   between from k = go (found_from l from) (found from)
     where
-      go : (f : Found) → Outcome l from f → from ≤ k → k < f.start → window_at l k ≡ false
+      go : (f : Found) → Outcome l from f → from ≤ k → k < start_in f → window_at l k ≡ false
       go f (too_many h) a b = absurd (omega arith)
       go f (window h a' b' w) a b = w.earlier k a b
       go f (no_more h w) a b = w k a

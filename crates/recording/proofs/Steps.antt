@@ -11,16 +11,15 @@ use lib.Dec.{ltb}
 use denote.Ref.{Bor}
 use borrow.Author.Tests.{ltb-true, ltb-false, le-ltb}
 use Rattle.bits.specs.Lists.{at, pick}
-use Rattle.recording.specs.declared.Found.{Found}
 use Rattle.recording.specs.declared.Walker.{Walker}
 use Rattle.recording.specs.declared.Handed.{Handed}
-use Rattle.recording.specs.Walk.{first_from, found_from, PartOf, HandedOn, windows_within, windows}
+use Rattle.recording.specs.Walk.{first_from, Found, found_from, after_in, PartOf, HandedOn, windows_within, windows}
 use Rattle.recording.proofs.Search.{done, none, window_fits, first_found, first_none, found_done, found_none}
 
 -- where a walk from a place stands after k steps, each from where the one before left it; and what the next step gives
 unfoldable pub stood : List ℕ → ℕ → ℕ → ℕ
 stood l from zero = from
-stood l from (suc k) = stood l (found_from l from).after k
+stood l from (suc k) = stood l (after_in (found_from l from)) k
 
 abbrev pub step : List ℕ → ℕ → ℕ → Found
 step l from k = found_from l (stood l from k)
@@ -116,14 +115,14 @@ module _ (l : List ℕ) where
     walked = steps_within (length l) 0 (omega arith)
 
 -- ---- the walker
-stood_next : (l : List ℕ) (from k : ℕ) → stood l from (suc k) ≡ (step l from k).after
+stood_next : (l : List ℕ) (from k : ℕ) → stood l from (suc k) ≡ after_in (step l from k)
 unfolding stood
 stood_next l from zero = refl
-stood_next l from (suc k) = stood_next l (found_from l from).after k
+stood_next l from (suc k) = stood_next l (after_in (found_from l from)) k
 
--- the number and the places that are handed on
+-- what is handed on as found
 abbrev pub told : Handed → Found
-told r = record { number = r.number; start = r.start; after = r.after }
+told r = r.found
 
 -- n calls one after another, from a new walker on, each over the walker that the one before left
 module _ (n : ℕ) (w : ℕ → Walker) (r : ℕ → Handed) (new : (w 0).place ≡ 0) (calls : (k : ℕ) → k < n → HandedOn (w k) (w (suc k)) (r k)) where
@@ -135,7 +134,7 @@ module _ (n : ℕ) (w : ℕ → Walker) (r : ℕ → Handed) (new : (w 0).place 
       let call = calls k i in (
         call.kept ∙ at_k.0,
         call.moved
-            ∙ ap₂ (λ (whole : Bor (List ℕ)) (from : ℕ). (found_from whole.now from).after) at_k.0 at_k.1
+            ∙ ap₂ (λ (whole : Bor (List ℕ)) (from : ℕ). after_in (found_from whole.now from)) at_k.0 at_k.1
             ∙ sym (stood_next (w 0).recording.now 0 k),
       )
 
@@ -146,7 +145,7 @@ module _ (n : ℕ) (w : ℕ → Walker) (r : ℕ → Handed) (new : (w 0).place 
       let at_k = walker_stands k (omega arith) in
       let call = calls k i in
       rw (← at_k.1, ← at_k.0)
-      (λ j. record { number = call.number j; start = call.start j; after = call.after j }, call.symbols)
+      (call.found, call.symbols)
 
   -- so calling it again and again hands back the windows of its recording with their places, in order, and then 4 with the empty part at the end
   -- for ever

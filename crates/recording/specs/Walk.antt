@@ -1,19 +1,18 @@
 -- The walk over a recording (01, "The pair and the recording"). Places count from 0. Assumes nothing.
-use Rattle.std.specs.Prelude.{◌≡◌, ◌⊎◌, Bool, true, false, List, [], ◌∷◌, ℕ, zero, suc, ◌+◌, ◌-◌, ◌≤◌, ◌<◌, leb, ltb, length}
+use Rattle.std.specs.Prelude.{◌≡◌, ◌⊎◌, Bool, true, false, List, [], ◌∷◌, ℕ, zero, suc, ◌+◌, ◌-◌, ◌≤◌, ◌<◌, leb, ltb, length, Option, is_some, Result, Ok, Err}
 use Rattle.std.specs.Borrow.{Bor}
 use Rattle.bits.specs.Lists.{pick, both, part}
 use Rattle.framing.specs.Sync.{sync_of}
 use Rattle.framing.specs.declared.Polarity.{Polarity}
-use Rattle.framing.specs.declared.Polarity.TheVariants.{Upright, TurnedOver, Missing}
-use Rattle.recording.specs.declared.Found.{Found}
+use Rattle.recording.specs.declared.FoundWindow.{FoundWindow}
+use Rattle.recording.specs.declared.WalkRefusal.{WalkRefusal}
+use Rattle.recording.specs.declared.WalkRefusal.TheVariants.{TooLong, NoWindow}
 use Rattle.recording.specs.declared.Walker.{Walker}
 use Rattle.recording.specs.declared.Handed.{Handed}
 
 -- the sync rule holds: upright or turned over
-abbrev pub held : Polarity → Bool
-held Upright = true
-held TurnedOver = true
-held Missing = false
+abbrev pub held : Option Polarity → Bool
+held sync = is_some sync
 
 -- 600 symbols remain at the place p, and the sync rule holds there
 unfoldable pub window_at : List ℕ → ℕ → Bool
@@ -32,29 +31,48 @@ search l (suc n) p = pick (window_at l p) p (search l n (p + 1))
 unfoldable pub first_from : List ℕ → ℕ → ℕ
 first_from l from = search l (length l - from) from
 
--- done at the place p, and the walk then stands at the window's end; or 4 at the recording's end
+-- what the walk gives: a window, or why there is none
+abbrev pub Found : Type 0
+Found = Result FoundWindow WalkRefusal
+
+-- a window at the place p, and the walk then stands at its end; or none at the recording's end
 unfoldable pub found_at : List ℕ → ℕ → Found
-found_at l p =
-    pick (ltb p (length l)) (record { number = 0; start = p; after = p + 600 }) (record { number = 4; start = length l; after = length l })
+found_at l p = pick (ltb p (length l)) (Ok (record { start = p; after = p + 600 })) (Err (NoWindow (length l)))
 
--- what the walk gives from a place: 1 where the recording is above 65,536 symbols
+-- what the walk gives from a place; it is refused where the recording is above 65,536 symbols
 unfoldable pub found_from : List ℕ → ℕ → Found
-found_from l from = pick (leb (length l) 65536) (found_at l (first_from l from)) (record { number = 1; start = 0; after = 0 })
+found_from l from = pick (leb (length l) 65536) (found_at l (first_from l from)) (Err TooLong)
 
--- r is the part of the whole from `start` to `after`: it lies there (a pointer is a block of memory and a place in it), and holds those symbols
+-- the number of what is given: done, above 65,536 symbols, and none left
+abbrev pub number_in : Found → ℕ
+number_in (Ok w) = 0
+number_in (Err TooLong) = 1
+number_in (Err (NoWindow end)) = 4
+
+-- where the window starts, and where the walk then stands
+abbrev pub start_in : Found → ℕ
+start_in (Ok w) = w.start
+start_in (Err TooLong) = 0
+start_in (Err (NoWindow end)) = end
+
+abbrev pub after_in : Found → ℕ
+after_in (Ok w) = w.after
+after_in (Err TooLong) = 0
+after_in (Err (NoWindow end)) = end
+
+-- r is the part of the whole from the start to where the walk then stands: it lies there (a pointer is a block of memory and a place in it), and
+-- holds those symbols
 pub record PartOf (whole : Bor (List ℕ)) (f : Found) (r : Bor (List ℕ)) : Type 0 where
-  pub lies : r.ref_ptr ≡ (whole.ref_ptr.0, f.start + whole.ref_ptr.1)
-  pub holds : r.now ≡ part whole.now f.start (f.after - f.start)
+  pub lies : r.ref_ptr ≡ (whole.ref_ptr.0, start_in f + whole.ref_ptr.1)
+  pub holds : r.now ≡ part whole.now (start_in f) (after_in f - start_in f)
 
 -- ---- the walker
 -- the walker w hands r on, and is v afterwards
 pub record HandedOn (w v : Walker) (r : Handed) : Type 0 where
-  pub number : r.number ≡ (found_from w.recording.now w.place).number
-  pub start : r.start ≡ (found_from w.recording.now w.place).start
-  pub after : r.after ≡ (found_from w.recording.now w.place).after
+  pub found : r.found ≡ found_from w.recording.now w.place
   pub symbols : PartOf w.recording (found_from w.recording.now w.place) r.symbols
   pub kept : v.recording ≡ w.recording
-  pub moved : v.place ≡ (found_from w.recording.now w.place).after
+  pub moved : v.place ≡ after_in (found_from w.recording.now w.place)
 
 -- ---- all windows
 -- the places of the windows from a place on, each searched from the end of the one before; n is a bound on their number

@@ -1,60 +1,86 @@
 // The walk over a recording of symbols.
 #![tactic(auto)]
 
-ghost use Rattle.std.specs.Prelude.{◌≡◌, ◌≤◌, length};
-ghost use Rattle.recording.specs.Walk.{found_from, PartOf, HandedOn};
+ghost use Rattle.std.specs.Prelude.{◌≡◌, ◌≤◌, Err, length};
+ghost use Rattle.recording.specs.Walk.{found_from, number_in, start_in, after_in, PartOf, HandedOn};
 
-use framing::Polarity;
+// The most symbols of a recording.
+pub const LONGEST: usize = 65536;
 
-// What the walk gives from a place: its number, and where the window starts and where the walk then stands.
-#[repr(C)]
-#[derive(Clone, Copy)]
-pub struct Found {
-    pub number: u8,
+// A window: where it starts, and where the walk then stands.
+#[derive(Clone, Copy, Debug, PartialEq, Eq)]
+pub struct FoundWindow {
     pub start: usize,
     pub after: usize,
 }
 
-// The first window at or after a place.
-#[tactic(auto, using(crate::proofs::Search::found_refused, crate::proofs::Search::found_none, crate::proofs::Search::first_none))]
-pub fn find(recording: &[u8], from: usize) -> Found
-    ensures { result ≡ found_from recording.now from }
-{
-    let n = recording.len();
-    if n > 65536 {
-        return Found {
-            number: 1,
-            start: 0,
-            after: 0,
-        };
-    }
-    let mut p = from;
-    while p < n && n - p >= 600 {
-        match framing::sync(1, recording, p) {
-            Polarity::Missing => p += 1,
-            Polarity::Upright | Polarity::TurnedOver => {
-                return Found {
-                    number: 0,
-                    start: p,
-                    after: p + 600,
-                };
-            }
+// Why the walk gives no window: the recording is above 65,536 symbols, or none is left before its end, where the walk then stands.
+#[derive(Clone, Copy, Debug, PartialEq, Eq)]
+pub enum WalkRefusal {
+    TooLong,
+    NoWindow { end: usize },
+}
+
+impl WalkRefusal {
+    // Its number, 1 or 4.
+    pub fn number(self) -> u8
+        ensures { result ≡ number_in (Err self) }
+    {
+        match self {
+            WalkRefusal::TooLong => 1,
+            WalkRefusal::NoWindow { .. } => 4,
         }
     }
-    Found {
-        number: 4,
-        start: n,
-        after: n,
+
+    // Where the walk then stands: at 0, or at the recording's end.
+    pub fn place(self) -> usize
+        ensures { result ≡ start_in (Err self) }
+    {
+        match self {
+            WalkRefusal::TooLong => 0,
+            WalkRefusal::NoWindow { end } => end,
+        }
     }
 }
 
+// The first window at or after a place.
+#[tactic(auto, using(crate::proofs::Search::found_refused, crate::proofs::Search::found_none, crate::proofs::Search::first_none))]
+pub fn find(recording: &[u8], from: usize) -> Result<FoundWindow, WalkRefusal>
+    ensures { result ≡ found_from recording.now from }
+{
+    let end = recording.len();
+    if end > LONGEST {
+        return Err(WalkRefusal::TooLong);
+    }
+    // 600 symbols remain at each of these places
+    let start = (from..end.saturating_sub(599))
+        .find(|&start| framing::sync(1, recording, start).is_some())
+        .ok_or(WalkRefusal::NoWindow { end })?;
+    Ok(FoundWindow {
+        start,
+        after: start + 600,
+    })
+}
+
+// The window, or the empty one at the place at which the walk then stands.
+fn stretch(found: Result<FoundWindow, WalkRefusal>) -> FoundWindow
+    ensures { result ≡ record { start = start_in found; after = after_in found } }
+{
+    found.unwrap_or_else(|refusal| {
+        let place = refusal.place();
+        FoundWindow {
+            start: place,
+            after: place,
+        }
+    })
+}
+
 // The part of the recording from a window's start to where the walk then stands.
-fn cut<'a>(recording: &'a [u8], found: Found) -> &'a [u8]
-    requires { (found.start ≤ found.after) × (found.after ≤ length recording.now) }
+fn cut<'a>(recording: &'a [u8], found: Result<FoundWindow, WalkRefusal>) -> &'a [u8]
+    requires { (start_in found ≤ after_in found) × (after_in found ≤ length recording.now) }
     ensures { PartOf recording.entry found result }
 {
-    let start = found.start;
-    let after = found.after;
+    let FoundWindow { start, after } = stretch(found);
     &recording[start..after]
 }
 
@@ -72,12 +98,11 @@ pub struct Walker<'a> {
     place: usize,
 }
 
-// What a walker hands on: the number, where the window starts and where the walk then stands, and the window's symbols as a part of the recording.
+// What a walker hands on: the window or why there is none, and the window's symbols as a part of the recording.
+// The symbols stand beside the Result, not in its Ok: beside a refusal `HandedOn` promises them too, as the empty part where the walk then stands.
 #[derive(Clone, Copy)]
 pub struct Handed<'a> {
-    pub number: u8,
-    pub start: usize,
-    pub after: usize,
+    pub found: Result<FoundWindow, WalkRefusal>,
     pub symbols: &'a [u8],
 }
 
@@ -92,20 +117,14 @@ impl<'a> Walker<'a> {
         }
     }
 
-    // The number, the next window and its place, and the walk then stands at the window's end.
+    // The next window and its symbols, and the walk then stands at the window's end.
     pub fn next(&mut self) -> Handed<'a>
         ensures { HandedOn self.old self.new result }
     {
         let recording = self.recording;
-        let from = self.place;
-        let found = find(recording, from);
-        self.place = found.after;
+        let found = find(recording, self.place);
+        self.place = stretch(found).after;
         let symbols = cut(recording, found);
-        Handed {
-            number: found.number,
-            start: found.start,
-            after: found.after,
-            symbols,
-        }
+        Handed { found, symbols }
     }
 }

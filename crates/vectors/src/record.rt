@@ -1,254 +1,229 @@
-// The records of a row, and whether a record that was read is that of its row.
-ghost use Rattle.std.specs.Prelude.{◌<◌};
-
-use crate::row;
+// The records of a row, and whether a record that was read is that of its row. The structs of `message` are built by name here again, so that a
+// wrong place in `message` shows.
+use crate::row::Columns;
 use message::{
-    Almanac, Beside, EarthIono, Head, IonoGrid, Null, Record, Slot, Subframe1, Subframe2,
-    TimeOffsets, Unread,
+    Almanac, Beside, EarthIono, Entry, Head, IonoGrid, Null, Pair, Record, Slot, Subframe1,
+    Subframe2, TimeOffsets, Unread,
 };
+use std::array;
 use weektime::{Towc, Week};
 
 // The columns at which a record's fields begin, in the table's order, and what stands beside it.
-const FIELDS: u16 = 17;
+const FIELDS: usize = 17;
 
-const BITS: u16 = 731;
+const BITS: usize = 731;
 
-const GIVEI: u16 = 788;
+const GIVEI: usize = 788;
 
-const GIVD: u16 = 819;
+const GIVD: usize = 819;
 
-// The field at the place k of the table's order, as each sort of number.
-fn number(row: &[u8], k: u8) -> u64 {
-    row::number(row, FIELDS, k)
-}
-
-fn plain(row: &[u8], k: u8) -> u32 {
-    row::plain(row, FIELDS, k)
-}
-
-fn signed(row: &[u8], k: u8) -> i32 {
-    row::signed(row, FIELDS, k)
-}
-
-fn flag(row: &[u8], k: u8) -> bool {
-    row::flag(row, FIELDS, k)
-}
-
-fn head(row: &[u8]) -> Head {
+fn head(fields: Columns) -> Head {
     Head {
-        tlm: plain(row, 0),
-        towc: Towc::new(plain(row, 1)),
-        alert: flag(row, 2),
-        auto_nav: flag(row, 3),
-        spare: plain(row, 5),
+        tlm: fields.plain(0),
+        towc: Towc::new(fields.plain(1)),
+        alert: fields.flag(2),
+        auto_nav: fields.flag(3),
+        spare: fields.plain(5),
     }
 }
 
-fn slot(row: &[u8]) -> Slot {
-    if plain(row, 4) == 2 {
+fn slot(fields: Columns) -> Slot {
+    if fields.plain(4) == 2 {
         Slot::Subframe3
     } else {
         Slot::Subframe4
     }
 }
 
-fn subframe1(row: &[u8]) -> Subframe1 {
+fn subframe1(fields: Columns) -> Subframe1 {
     Subframe1 {
-        head: head(row),
-        wn: Week::new(plain(row, 6)),
-        af0: signed(row, 7),
-        af1: signed(row, 8),
-        af2: signed(row, 9),
-        ura: plain(row, 10),
-        toc: plain(row, 11),
-        tgd: signed(row, 12),
-        delta_n: signed(row, 13),
-        iodec: plain(row, 14),
-        reserved: plain(row, 15),
-        l5_flag: flag(row, 16),
-        s_flag: flag(row, 17),
-        cuc: signed(row, 18),
-        cus: signed(row, 19),
-        cic: signed(row, 20),
-        cis: signed(row, 21),
-        crc: signed(row, 22),
-        crs: signed(row, 23),
-        idot: signed(row, 24),
-        spare: plain(row, 25),
+        head: head(fields),
+        wn: Week::new(fields.plain(6)),
+        af0: fields.signed(7),
+        af1: fields.signed(8),
+        af2: fields.signed(9),
+        ura: fields.plain(10),
+        toc: fields.plain(11),
+        tgd: fields.signed(12),
+        delta_n: fields.signed(13),
+        iodec: fields.plain(14),
+        reserved: fields.plain(15),
+        l5_flag: fields.flag(16),
+        s_flag: fields.flag(17),
+        cuc: fields.signed(18),
+        cus: fields.signed(19),
+        cic: fields.signed(20),
+        cis: fields.signed(21),
+        crc: fields.signed(22),
+        crs: fields.signed(23),
+        idot: fields.signed(24),
+        spare: fields.plain(25),
     }
 }
 
-fn subframe2(row: &[u8]) -> Subframe2 {
+fn subframe2(fields: Columns) -> Subframe2 {
     Subframe2 {
-        head: head(row),
-        m0: signed(row, 6),
-        toe: plain(row, 7),
-        e: plain(row, 8),
-        root_a: plain(row, 9),
-        omega0: signed(row, 10),
-        omega: signed(row, 11),
-        omega_dot: signed(row, 12),
-        i0: signed(row, 13),
-        spare: plain(row, 14),
+        head: head(fields),
+        m0: fields.signed(6),
+        toe: fields.plain(7),
+        e: fields.plain(8),
+        root_a: fields.plain(9),
+        omega0: fields.signed(10),
+        omega: fields.signed(11),
+        omega_dot: fields.signed(12),
+        i0: fields.signed(13),
+        spare: fields.plain(14),
     }
 }
 
-fn iono_grid(row: &[u8]) -> IonoGrid {
+fn iono_grid(fields: Columns) -> IonoGrid {
     IonoGrid {
-        head: head(row),
-        slot: slot(row),
-        mask: plain(row, 7),
-        region: plain(row, 8),
-        iodi: plain(row, 39),
-        spare: plain(row, 40),
-        prn: plain(row, 41),
+        head: head(fields),
+        slot: slot(fields),
+        mask: fields.plain(7),
+        region: fields.plain(8),
+        iodi: fields.plain(39),
+        spare: fields.plain(40),
+        prn: fields.plain(41),
     }
 }
 
-fn almanac(row: &[u8]) -> Almanac {
+fn almanac(fields: Columns) -> Almanac {
     Almanac {
-        head: head(row),
-        slot: slot(row),
-        wna: Week::new(plain(row, 7)),
-        e: plain(row, 8),
-        toa: plain(row, 9),
-        i0: signed(row, 10),
-        omega_dot: signed(row, 11),
-        root_a: plain(row, 12),
-        omega0: signed(row, 13),
-        omega: signed(row, 14),
-        m0: signed(row, 15),
-        af0: signed(row, 16),
-        af1: signed(row, 17),
-        prn_almanac: plain(row, 18),
-        isc: signed(row, 19),
-        spare: plain(row, 20),
-        prn: plain(row, 21),
+        head: head(fields),
+        slot: slot(fields),
+        wna: Week::new(fields.plain(7)),
+        e: fields.plain(8),
+        toa: fields.plain(9),
+        i0: fields.signed(10),
+        omega_dot: fields.signed(11),
+        root_a: fields.plain(12),
+        omega0: fields.signed(13),
+        omega: fields.signed(14),
+        m0: fields.signed(15),
+        af0: fields.signed(16),
+        af1: fields.signed(17),
+        prn_almanac: fields.plain(18),
+        isc: fields.signed(19),
+        spare: fields.plain(20),
+        prn: fields.plain(21),
     }
 }
 
-fn time_offsets(row: &[u8]) -> TimeOffsets {
+fn time_offsets(fields: Columns) -> TimeOffsets {
     TimeOffsets {
-        head: head(row),
-        slot: slot(row),
-        a0_utc: signed(row, 7),
-        a1_utc: signed(row, 8),
-        a2_utc: signed(row, 9),
-        leap_seconds: signed(row, 10),
-        t_utc: plain(row, 11),
-        wn_utc: Week::new(plain(row, 12)),
-        wn_leap: Week::new(plain(row, 13)),
-        day_leap: plain(row, 14),
-        leap_seconds_next: signed(row, 15),
-        a0: signed(row, 16),
-        a1: signed(row, 17),
-        a2: signed(row, 18),
-        t_gnss: plain(row, 19),
-        wn_gnss: Week::new(plain(row, 20)),
-        gnss_id: plain(row, 21),
-        spare: number(row, 22),
-        prn: plain(row, 23),
+        head: head(fields),
+        slot: slot(fields),
+        a0_utc: fields.signed(7),
+        a1_utc: fields.signed(8),
+        a2_utc: fields.signed(9),
+        leap_seconds: fields.signed(10),
+        t_utc: fields.plain(11),
+        wn_utc: Week::new(fields.plain(12)),
+        wn_leap: Week::new(fields.plain(13)),
+        day_leap: fields.plain(14),
+        leap_seconds_next: fields.signed(15),
+        a0: fields.signed(16),
+        a1: fields.signed(17),
+        a2: fields.signed(18),
+        t_gnss: fields.plain(19),
+        wn_gnss: Week::new(fields.plain(20)),
+        gnss_id: fields.plain(21),
+        spare: fields.number(22),
+        prn: fields.plain(23),
     }
 }
 
-fn earth_iono(row: &[u8]) -> EarthIono {
+fn earth_iono(fields: Columns) -> EarthIono {
     EarthIono {
-        head: head(row),
-        slot: slot(row),
-        t_eop: plain(row, 7),
-        pm_x: signed(row, 8),
-        pm_x_dot: signed(row, 9),
-        pm_y: signed(row, 10),
-        pm_y_dot: signed(row, 11),
-        d_ut1: signed(row, 12),
-        d_ut1_dot: signed(row, 13),
-        alpha0: signed(row, 14),
-        alpha1: signed(row, 15),
-        alpha2: signed(row, 16),
-        alpha3: signed(row, 17),
-        beta0: signed(row, 18),
-        beta1: signed(row, 19),
-        beta2: signed(row, 20),
-        beta3: signed(row, 21),
-        spare: plain(row, 22),
-        prn: plain(row, 23),
+        head: head(fields),
+        slot: slot(fields),
+        t_eop: fields.plain(7),
+        pm_x: fields.signed(8),
+        pm_x_dot: fields.signed(9),
+        pm_y: fields.signed(10),
+        pm_y_dot: fields.signed(11),
+        d_ut1: fields.signed(12),
+        d_ut1_dot: fields.signed(13),
+        alpha0: fields.signed(14),
+        alpha1: fields.signed(15),
+        alpha2: fields.signed(16),
+        alpha3: fields.signed(17),
+        beta0: fields.signed(18),
+        beta1: fields.signed(19),
+        beta2: fields.signed(20),
+        beta3: fields.signed(21),
+        spare: fields.plain(22),
+        prn: fields.plain(23),
     }
 }
 
-fn null(row: &[u8]) -> Null {
+fn null(fields: Columns) -> Null {
     Null {
-        head: head(row),
-        slot: slot(row),
-        prn: plain(row, 35),
+        head: head(fields),
+        slot: slot(fields),
+        prn: fields.plain(35),
     }
 }
 
-fn unread(row: &[u8]) -> Unread {
+fn unread(fields: Columns) -> Unread {
     Unread {
-        head: head(row),
-        slot: slot(row),
-        id: plain(row, 6),
-        prn: plain(row, 35),
+        head: head(fields),
+        slot: slot(fields),
+        id: fields.plain(6),
+        prn: fields.plain(35),
     }
 }
 
 // The case of a record, from 1 on; 0 where there is none.
 pub fn case(row: &[u8]) -> u64 {
-    row::number(row, 0, 0)
+    Columns::of(row, 0).number(0)
 }
 
 // The record of a row.
 pub fn record(row: &[u8]) -> Record {
+    let fields = Columns::of(row, FIELDS);
     match case(row) {
-        1 => Record::Subframe1(subframe1(row)),
-        2 => Record::Subframe2(subframe2(row)),
-        3 => Record::IonoGrid(iono_grid(row)),
-        4 => Record::Almanac(almanac(row)),
-        5 => Record::GpsTime(time_offsets(row)),
-        6 => Record::EarthIono(earth_iono(row)),
-        7 => Record::GnssTime(time_offsets(row)),
-        8 => Record::Null(null(row)),
-        _ => Record::Unread(unread(row)),
+        1 => Record::Subframe1(subframe1(fields)),
+        2 => Record::Subframe2(subframe2(fields)),
+        3 => Record::IonoGrid(iono_grid(fields)),
+        4 => Record::Almanac(almanac(fields)),
+        5 => Record::GpsTime(time_offsets(fields)),
+        6 => Record::EarthIono(earth_iono(fields)),
+        7 => Record::GnssTime(time_offsets(fields)),
+        8 => Record::Null(null(fields)),
+        _ => Record::Unread(unread(fields)),
     }
 }
 
 fn bits(row: &[u8]) -> [u8; 28] {
-    let mut bits = [0u8; 28];
-    for k in 0..28u16 {
-        bits[k as usize] = row::byte(row, BITS, k);
-    }
-    bits
+    let bits = Columns::of(row, BITS);
+    array::from_fn(|k| bits.byte(k))
 }
 
-fn givei(row: &[u8]) -> [u8; 15] {
-    let mut givei = [0u8; 15];
-    for k in 0..15u16 {
-        givei[k as usize] = row::byte(row, GIVEI, k);
-    }
-    givei
-}
-
-// Four digits each.
-fn givd_at(row: &[u8], k: u16) -> u16
-    requires { k < 15 }
-{
-    row::byte(row, GIVD, 2 * k) as u16 * 256 + row::byte(row, GIVD, 2 * k + 1) as u16
-}
-
-fn givd(row: &[u8]) -> [u16; 15] {
-    let mut givd = [0u16; 15];
-    for k in 0..15u16 {
-        givd[k as usize] = givd_at(row, k);
-    }
-    givd
+// Type 5's pairs: two digits each, and four.
+fn pairs(row: &[u8]) -> [Pair; 15] {
+    let giveis = Columns::of(row, GIVEI);
+    let givds = Columns::of(row, GIVD);
+    array::from_fn(|k| Pair {
+        givei: giveis.byte(k),
+        givd: u16::from_be_bytes([givds.byte(2 * k), givds.byte(2 * k + 1)]),
+    })
 }
 
 // What stands beside the record of a row.
 pub fn beside(row: &[u8]) -> Beside {
     Beside {
         bits: bits(row),
-        givei: givei(row),
-        givd: givd(row),
+        pairs: pairs(row),
+    }
+}
+
+// The record of a row and what stands beside it.
+pub fn entry(row: &[u8]) -> Entry {
+    Entry {
+        record: record(row),
+        beside: beside(row),
     }
 }
 
@@ -267,42 +242,14 @@ fn case_of(record: Record) -> u64 {
     }
 }
 
-fn same_numbers(numbers: [u64; 42], row: &[u8]) -> bool {
-    let mut same = true;
-    for k in 0..42u8 {
-        same = same & (numbers[k as usize] == number(row, k));
-    }
-    same
+// The numbers of a record's fields, in the table's order.
+fn numbers(row: &[u8]) -> [u64; 42] {
+    let fields = Columns::of(row, FIELDS);
+    array::from_fn(|k| fields.number(k))
 }
 
-// Whether a record is that of a row: its case, and the numbers of its fields in the table's order. That each name stands at its place in that order
-// the rows of `write` tell, whose records are built by name.
-pub fn same_record(record: Record, beside: Beside, row: &[u8]) -> bool {
-    (case_of(record) == case(row)) & same_numbers(message::table_numbers(record, beside), row)
-}
-
-fn same_bits(bits: [u8; 28], row: &[u8]) -> bool {
-    let mut same = true;
-    for k in 0..28u16 {
-        same = same & (bits[k as usize] == row::byte(row, BITS, k));
-    }
-    same
-}
-
-fn same_pairs(givei: [u8; 15], givd: [u16; 15], row: &[u8]) -> bool {
-    let mut same = true;
-    for k in 0..15u16 {
-        same = same
-            & (givei[k as usize] == row::byte(row, GIVEI, k))
-            & (givd[k as usize] == givd_at(row, k));
-    }
-    same
-}
-
-// Whether what stands beside a record is what the row has there.
-pub fn same_beside(beside: Beside, row: &[u8]) -> bool {
-    let bits = beside.bits;
-    let givei = beside.givei;
-    let givd = beside.givd;
-    same_bits(bits, row) & same_pairs(givei, givd, row)
+// Whether an entry's record is that of a row: its case, and the numbers of its fields in the table's order. That each name stands at its place in
+// that order the rows of `write` tell, whose records are built by name.
+pub fn same_record(entry: Entry, row: &[u8]) -> bool {
+    case_of(entry.record) == case(row) && entry.numbers() == numbers(row)
 }

@@ -1,14 +1,12 @@
 // What a row of a file holds: numbers, bytes and letters by their columns.
-ghost use Rattle.std.specs.Prelude.{◌<◌};
+ghost use Rattle.std.specs.Prelude.{◌<◌, ◌≤◌};
 
 use std::io::{self, ErrorKind, Read};
 
-// What stands in a column; 0 past the row's end.
-fn at(row: &[u8], column: usize) -> u8 {
-    if column < row.len() { row[column] } else { 0 }
-}
+// What a byte that is lent holds before the call.
+pub const LENT_AS: u8 = 0xa5;
 
-// What a hexadecimal digit means; 0 for any other letter.
+// What a hexadecimal digit means; 0 for any other letter, A to F too, which std's `to_digit` takes.
 pub fn digit(letter: u8) -> u8
     ensures { result < 16 }
 {
@@ -19,54 +17,75 @@ pub fn digit(letter: u8) -> u8
     }
 }
 
-// The letter k columns behind `first`.
-pub fn letter(row: &[u8], first: u16, k: u16) -> u8 {
-    at(row, first as usize + k as usize)
-}
+// A row from a column on.
+#[derive(Clone, Copy)]
+pub struct Columns<'a>(&'a [u8]);
 
-// The k-th of the bytes, two digits each, that begin at the column `first`.
-pub fn byte(row: &[u8], first: u16, k: u16) -> u8 {
-    let column = first as usize + 2 * k as usize;
-    digit(at(row, column)) * 16 + digit(at(row, column + 1))
-}
-
-// The k-th of the numbers, sixteen digits and a blank each, that begin at the column `first`.
-pub fn number(row: &[u8], first: u16, k: u8) -> u64 {
-    let column = first as usize + 17 * k as usize;
-    let mut n: u64 = 0;
-    for i in 0..16 {
-        n = n % 1152921504606846976 * 16 + digit(at(row, column + i)) as u64;
+impl<'a> Columns<'a> {
+    pub fn of(row: &'a [u8], first: usize) -> Self {
+        Self(row.get(first..).unwrap_or(&[]))
     }
-    n
-}
 
-// The same as the field of a record.
-pub fn plain(row: &[u8], first: u16, k: u8) -> u32 {
-    (number(row, first, k) % 4294967296) as u32
-}
-
-pub fn signed(row: &[u8], first: u16, k: u8) -> i32 {
-    let n = number(row, first, k);
-    if n < 9223372036854775808 {
-        (n % 2147483648) as i32
-    } else {
-        !(((18446744073709551615 - n) % 2147483648) as i32)
+    // The k-th letter; past the row's end the digit 0.
+    pub fn letter(self, k: usize) -> u8 {
+        self.0.get(k).copied().unwrap_or(b'0')
     }
-}
 
-pub fn flag(row: &[u8], first: u16, k: u8) -> bool {
-    number(row, first, k) == 1
-}
-
-// Reads the next row of a file; answers whether there was a whole one.
-pub fn next_row(rows: &mut impl Read, row: &mut [u8], size: usize) -> io::Result<bool> {
-    if size <= row.len() {
-        match rows.read_exact(&mut row[..size]) {
-            Ok(()) => Ok(true),
-            Err(e) if e.kind() == ErrorKind::UnexpectedEof => Ok(false),
-            Err(e) => Err(e),
+    // The k-th of the bytes, two digits each.
+    pub fn byte(self, k: usize) -> u8 {
+        let (bytes, _) = self.0.as_chunks::<2>();
+        match bytes.get(k) {
+            Some(&[high, low]) => digit(high) * 16 + digit(low),
+            None => 0,
         }
-    } else {
-        Ok(false)
+    }
+
+    // The k-th of the numbers, sixteen digits and a blank each; past the row's end 0.
+    pub fn number(self, k: usize) -> u64 {
+        let (numbers, _) = self.0.as_chunks::<17>();
+        match numbers.get(k) {
+            Some(number) => number
+                .iter()
+                .take(16)
+                .fold(0, |n, &letter| n << 4 | u64::from(digit(letter))),
+            None => 0,
+        }
+    }
+
+    // The same as a length of at most so much.
+    pub fn at_most(self, k: usize, limit: usize) -> usize
+        ensures { result ≤ limit }
+    {
+        self.number(k).min(limit as u64) as usize
+    }
+
+    // The same as the field of a record.
+    pub fn plain(self, k: usize) -> u32 {
+        (self.number(k) & 0xffff_ffff) as u32
+    }
+
+    pub fn signed(self, k: usize) -> i32 {
+        self.plain(k).cast_signed()
+    }
+
+    pub fn flag(self, k: usize) -> bool {
+        self.number(k) == 1
+    }
+}
+
+// Reads the next row of a file, if there is a whole one, into what is lent. Its callers loop by themselves: with one loop over a closure that calls
+// another the search finds no proof that it may be called.
+pub fn next_row<'a>(
+    rows: &mut impl Read,
+    lent: &'a mut [u8],
+    size: usize,
+) -> io::Result<Option<&'a [u8]>> {
+    let Some(row) = lent.get_mut(..size) else {
+        return Ok(None);
+    };
+    match rows.read_exact(row) {
+        Ok(()) => Ok(Some(row)),
+        Err(e) if e.kind() == ErrorKind::UnexpectedEof => Ok(None),
+        Err(e) => Err(e),
     }
 }

@@ -1,5 +1,5 @@
 // How the rows of a file came out, and what is printed of it.
-use std::io;
+use std::{fmt, io};
 
 // How a row came out; one of several that make up an input is unfinished before the last.
 #[derive(Clone, Copy)]
@@ -10,66 +10,59 @@ pub enum Outcome {
     Unfinished,
 }
 
-pub fn judged(same: bool) -> Outcome {
-    if same { Outcome::Right } else { Outcome::Wrong }
+impl From<bool> for Outcome {
+    fn from(same: bool) -> Outcome {
+        if same { Outcome::Right } else { Outcome::Wrong }
+    }
 }
 
 // The rows of a file that were run, that failed and that were skipped.
-#[derive(Drop)]
+#[derive(Clone, Copy)]
 pub struct Tally {
+    file: &'static str,
     run: u64,
     failed: u64,
     skipped: u64,
 }
 
-fn one_more(n: u64) -> u64 {
-    if n < u64::MAX { n + 1 } else { n }
-}
-
 impl Tally {
-    pub fn none() -> Self {
+    pub fn new(file: &'static str) -> Self {
         Self {
+            file,
             run: 0,
             failed: 0,
             skipped: 0,
         }
     }
 
-    // With one row more.
-    pub fn with(self, outcome: Outcome) -> Self {
+    // Counts a row, and names it if it was not right.
+    pub fn count(&mut self, rt: &impl Print, row: u64, outcome: Outcome) -> io::Result<()> {
+        let file = self.file;
         match outcome {
-            Outcome::Right => Self {
-                run: one_more(self.run),
-                failed: self.failed,
-                skipped: self.skipped,
-            },
-            Outcome::Wrong => Self {
-                run: one_more(self.run),
-                failed: one_more(self.failed),
-                skipped: self.skipped,
-            },
-            Outcome::Skipped => Self {
-                run: self.run,
-                failed: self.failed,
-                skipped: one_more(self.skipped),
-            },
-            Outcome::Unfinished => self,
+            Outcome::Right => {
+                self.run = self.run.saturating_add(1);
+                Ok(())
+            }
+            Outcome::Wrong => {
+                self.run = self.run.saturating_add(1);
+                self.failed = self.failed.saturating_add(1);
+                println!(rt; "{file}: failed row {row}")
+            }
+            Outcome::Skipped => {
+                self.skipped = self.skipped.saturating_add(1);
+                println!(rt; "{file}: skipped row {row}")
+            }
+            Outcome::Unfinished => Ok(()),
         }
     }
 }
 
-// Names a row that was not right.
-pub fn name_row(rt: &impl Print, file: &str, row: u64, outcome: Outcome) -> io::Result<()> {
-    match outcome {
-        Outcome::Right | Outcome::Unfinished => Ok(()),
-        Outcome::Wrong => println!(rt; "{file}: failed row {row}"),
-        Outcome::Skipped => println!(rt; "{file}: skipped row {row}"),
+impl fmt::Display for Tally {
+    fn fmt<W: fmt::Write>(&self, f: &mut fmt::Formatter<W>) -> fmt::Result {
+        write!(
+            f,
+            "{}: {} run, {} failed, {} skipped",
+            self.file, self.run, self.failed, self.skipped
+        )
     }
-}
-
-pub fn print_tally(rt: &impl Print, file: &str, tally: Tally) -> io::Result<()> {
-    println!(rt;
-        "{file}: {} run, {} failed, {} skipped",
-        tally.run, tally.failed, tally.skipped
-    )
 }

@@ -1,18 +1,17 @@
 // Rows of `time`: a count, and the second at which its subframe began.
+use crate::row::Columns;
 use crate::tally::Outcome;
-use crate::{row, tally};
-use weektime::{Began, Towc};
+use weektime::Towc;
 
 // The column of the count, the refusal and the second.
-const COUNT: u16 = 17;
+const COUNT: usize = 17;
 
 pub fn run(row: &[u8]) -> Outcome {
-    let refusal = row::plain(row, COUNT, 1);
-    let second = row::plain(row, COUNT, 2);
-    let began = weektime::began_at(Towc::new(row::plain(row, COUNT, 0)));
-    let same = match began {
-        Began::At(found) => (refusal == 0) & (found.second() == second),
-        Began::Refused => (refusal == 7) & (second == 0),
+    let row = Columns::of(row, COUNT);
+    // As the rows have an answer: its number, and the second or 0.
+    let found = match weektime::began_at(Towc::new(row.plain(0))) {
+        Some(second) => (0, second.second()),
+        None => (7, 0),
     };
-    tally::judged(same)
+    (found == (row.plain(1), row.plain(2))).into()
 }

@@ -9,8 +9,7 @@ use native.Mathlib.Decide.{dec_le}
 use native.Mathlib.Omega.{arith}
 use borrow.Author.Tests.{le-leb, lt-leb, le-ltb, lt-ltb}
 use lib.Dec.{ltb}
-use Rattle.weektime.specs.declared.Began.TheVariants as began
-use Rattle.weektime.specs.declared.Counted.TheVariants as counted
+use Rattle.std.specs.Prelude.{Some, None}
 use Rattle.weektime.specs.Time.{towc_refused, began_of, count_of, began_number, began_second, counted_number, counted_count}
 
 pub too_low : (n : ℕ) → n < 1 → towc_refused n ≡ true
@@ -42,15 +41,21 @@ taken n e = elim (dec_le 1 n) [
   | no h ↦ absurd (let f = too_low n (omega arith) in let z : ◌≡◌ {A = ℕ} 0 1 = (cc) in omega arith)
 ]
 
+pub at_least : (n : ℕ) → towc_refused n ≡ false → 1 ≤ n
+at_least n e = (taken n e).0
+
+pub at_most : (n : ℕ) → towc_refused n ≡ false → n ≤ 50400
+at_most n e = (taken n e).1
+
 -- TOWC 1, 24843 and 50400 begin at 0, 298104 and 604788; 0 and 50401 are refused
 pub edge_times :
     map began_of (record { 0 = 1 } ∷ record { 0 = 24843 } ∷ record { 0 = 50400 } ∷ record { 0 = 0 } ∷ record { 0 = 50401 } ∷ [])
-    ≡ began.At (record { 0 = 0 }) ∷ began.At (record { 0 = 298104 }) ∷ began.At (record { 0 = 604788 }) ∷ began.Refused ∷ began.Refused ∷ []
+    ≡ Some (record { 0 = 0 }) ∷ Some (record { 0 = 298104 }) ∷ Some (record { 0 = 604788 }) ∷ None ∷ None ∷ []
 unfolding began_of towc_refused
 edge_times = refl
 
 -- the second at which a subframe began lies in that subframe
-pub there_and_back : (n : ℕ) → 1 ≤ n → n ≤ 50400 → count_of (record { 0 = (n - 1) * 12 }) ≡ counted.In (record { 0 = n })
+pub there_and_back : (n : ℕ) → 1 ≤ n → n ≤ 50400 → count_of (record { 0 = (n - 1) * 12 }) ≡ Some (record { 0 = n })
 unfolding count_of
 there_and_back n h k =
     let e : (n - 1) * 12 / 12 + 1 ≡ n = omega arith in

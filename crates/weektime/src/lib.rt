@@ -1,12 +1,16 @@
 // The three quantities of time: the count of twelve-second steps, the second of the week and the week number. Each has a type of its own with a
-// private number, so that a call that takes one of them rejects the other two when the program is built.
+// private number, so that a call that takes one of them rejects the other two when the program is built. Each is made by its `new`, which names the
+// quantity at the call, where a `From<u32>` would let `n.into()` make any of the three.
 #![tactic(auto)]
 
 ghost use Rattle.std.specs.Prelude.{◌≡◌};
 ghost use Rattle.weektime.specs.Time.{towc_refused, began_of, count_of};
 
+// The seconds of a step.
+const STEP: u32 = 12;
+
 // A count of twelve-second steps (TOWC). It holds any number.
-#[derive(Clone, Copy)]
+#[derive(Clone, Copy, Debug, PartialEq, Eq, PartialOrd, Ord)]
 pub struct Towc(u32);
 
 impl Towc {
@@ -24,7 +28,7 @@ impl Towc {
 }
 
 // A second of the week.
-#[derive(Clone, Copy)]
+#[derive(Clone, Copy, Debug, PartialEq, Eq, PartialOrd, Ord)]
 pub struct SecondOfWeek(u32);
 
 impl SecondOfWeek {
@@ -42,7 +46,7 @@ impl SecondOfWeek {
 }
 
 // A week number.
-#[derive(Clone, Copy)]
+#[derive(Clone, Copy, Debug, PartialEq, Eq, PartialOrd, Ord)]
 pub struct Week(u32);
 
 impl Week {
@@ -64,40 +68,28 @@ impl Week {
 pub fn refused(t: Towc) -> bool
     ensures { result ≡ towc_refused t.0 }
 {
-    let n = t.0;
-    if n < 1 { true } else { 50400 < n }
+    !(1..=50400).contains(&t.0)
 }
 
 // The second at which the subframe of a count began.
-#[derive(Clone, Copy)]
-pub enum Began {
-    At(SecondOfWeek),
-    Refused,
-}
-
-pub fn began_at(t: Towc) -> Began
+#[tactic(auto, using(crate::proofs::Counts::at_least, crate::proofs::Counts::at_most), unfolding(crate::specs::Time::began_of))]
+pub fn began_at(t: Towc) -> Option<SecondOfWeek>
     ensures { result ≡ began_of t }
 {
     if refused(t) {
-        return Began::Refused;
+        return None;
     }
-    let n = t.0;
-    Began::At(SecondOfWeek((n - 1) * 12))
+    Some(SecondOfWeek((t.0 - 1) * STEP))
 }
 
 // The count of the subframe in which a second lies.
-#[derive(Clone, Copy)]
-pub enum Counted {
-    In(Towc),
-    Refused,
-}
-
-pub fn count_in(s: SecondOfWeek) -> Counted
+#[tactic(auto, unfolding(crate::specs::Time::count_of))]
+pub fn count_in(s: SecondOfWeek) -> Option<Towc>
     ensures { result ≡ count_of s }
 {
-    let t = Towc(s.0 / 12 + 1);
+    let t = Towc(s.0 / STEP + 1);
     if refused(t) {
-        return Counted::Refused;
+        return None;
     }
-    Counted::In(t)
+    Some(t)
 }

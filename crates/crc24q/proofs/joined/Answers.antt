@@ -1,28 +1,15 @@
-use mathlib.Core.Path.{refl, sym, ◌∙◌}
-use mathlib.Core.List.{List, ◌++◌}
-use Prim.Native.Nat.{ℕ}
-use native.Mathlib.Omega.{arith}
-use lib.ListN.{replicate, length-append}
-use Rattle.bits.specs.Lists.{at}
+-- The body is copied to the front, and behind it the bits of the check. Assumes nothing.
+use Rattle.std.proofs.Common.{◌≡◌, ◌++◌, ℕ, ◌+◌, ◌-◌, ◌/◌, ◌%◌, ◌^◌, length, refl, sym, ap, ap₂, ◌∙◌, rules, arith}
 use Rattle.bits.specs.Numbers.{bits_of}
 use Rattle.bits.proofs.Build.{built}
-use Rattle.bits.proofs.Fill.{put_none, put_more, put_all}
-use Rattle.bits.proofs.Numbers.{bits_long}
+use Rattle.bits.proofs.Made.{made, joined}
+use Rattle.bits.proofs.Numbers.{bits_at, bits_long}
 use Rattle.crc24q.proofs.joined.Goals as goal
 
-pub loop-i-init : goal.loop-i-init
-loop-i-init c = let a = c.args in (omega arith, put_none (at (a.body.now ++ bits_of 24 a.c)) 0 (replicate 286 0))
-
-pub loop-i-preserved : goal.loop-i-preserved
-loop-i-preserved c = let a = c.args in
-    let l = c.loop-i in (
-      omega arith,
-      put_more (at (a.body.now ++ bits_of 24 a.c)) 0 l.i l.i c.bit.result (replicate 286 0) l.word (omega arith) (omega arith) c.bit.ensures l.invariant.1,
-    )
-
 pub returns : goal.returns
-returns c = let a = c.args in
-    let l = c.loop-i in
-    let word : List ℕ = a.body.now ++ bits_of 24 a.c in
-    put_all (at word) 286 l.i (replicate 286 0) l.word refl (omega arith) l.invariant.1
-    ∙ sym (built 286 (at word) word (omega (arith, length-append a.body.now (bits_of 24 a.c), bits_long 24 a.c)) (λ i h. refl))
+returns c =
+    let n = c.args.c in
+    let e = made _ _ (λ k. n / 2 ^ (23 - k) % 2) 24 (λ i y q l k. search rules) c.from_fn-bits.result c.from_fn-bits.ensures.items in
+    let b = built 24 (λ k. n / 2 ^ (23 - k) % 2) (bits_of 24 n) (bits_long 24 n) (λ k h. let there : 24 - (k + 1) ≡ 23 - k = omega arith in bits_at 24 n k h ∙ ap (λ (j : ℕ). n / 2 ^ j % 2) there) in
+    let s : c.copy_from_slice.new.self ≡ c.args.body.now = search rules in
+    joined 262 c.copy_from_slice.new.self c.copy_from_slice-2.new.self _ 24 (omega (arith, ap length s)) refl ∙ ap₂ ◌++◌ s (c.copy_from_slice-2.ensures.after ∙ e ∙ sym b)

@@ -9,9 +9,11 @@ use Rattle.crc24q.proofs.push.Goals as goal
 
 pub returns-then-t-lt16777216 : goal.returns-then-t-lt16777216
 unfolding ◌⊕◌
-returns-then-t-lt16777216 c = reduce_none (c.args.r * 2 ⊕ c.args.b % 2 * 2 ^ 24) c.if-t-lt16777216.true
+returns-then-t-lt16777216 c = rw c.from.ensures
+    (reduce_none (c.args.r * 2 ⊕ c.args.b % 2 * 2 ^ 24) (rw c.from.ensures at c.if-t-lt16777216.true))
 
 pub returns-else-t-lt16777216 : goal.returns-else-t-lt16777216
 unfolding ◌⊕◌
-returns-else-t-lt16777216 c = reduce_once (c.args.r * 2 ⊕ c.args.b % 2 * 2 ^ 24) c.if-t-lt16777216.false
-    (plus_lt 25 (c.args.r * 2) (c.args.b % 2 * 2 ^ 24) (omega arith) (omega arith))
+returns-else-t-lt16777216 c = rw c.from.ensures
+    (reduce_once (c.args.r * 2 ⊕ c.args.b % 2 * 2 ^ 24) (rw c.from.ensures at c.if-t-lt16777216.false)
+    (plus_lt 25 (c.args.r * 2) (c.args.b % 2 * 2 ^ 24) (omega arith) (omega arith)))

@@ -1,12 +1,10 @@
--- The first i rows hold their numbers, so the fault is one of the rows behind them. Assumes nothing.
+-- The rows so far hold their numbers, so the fault is one of the rows left. Assumes nothing.
 use mathlib.Core.Path.{◌≡◌}
-use Prim.Native.Nat.{◌≤◌, ◌-◌}
-use lib.ListN.{take, drop}
 use Rattle.fields.specs.Patterns.{pattern_fault}
+use Rattle.fields.specs.Table.{rows_of}
+use Rattle.fields.proofs.Turns.{Left}
 use Rattle.fields.proofs.fault.Given as goal
 
-abbrev pub invariant-loop-i : goal.invariant-loop-i
-invariant-loop-i l = (l.i ≤ l.n) × (pattern_fault (take l.n l.rows) l.numbers ≡ pattern_fault (drop l.i (take l.n l.rows)) (drop l.i l.numbers))
-
-abbrev pub decreases-loop-i : goal.decreases-loop-i
-decreases-loop-i l = l.n - l.i
+abbrev pub invariant-loop-row : goal.invariant-loop-row
+invariant-loop-row l = let i = l.row-iterator in
+    Left i.a.rest.now i.b.rest.now × (pattern_fault (rows_of l.fn.layout) l.fn.numbers ≡ pattern_fault i.a.rest.now i.b.rest.now)

@@ -1,12 +1,10 @@
--- The loop has put the fields of the first i rows in. Assumes nothing.
+-- The fields so far are in the body, and those left come behind them. Assumes nothing.
 use mathlib.Core.Path.{◌≡◌}
-use Prim.Native.Nat.{◌≤◌, ◌-◌}
 use lib.ListN.{length}
-use Rattle.fields.proofs.Turns.{Written}
+use Rattle.fields.specs.Table.{rows_of}
+use Rattle.fields.proofs.Turns.{Left, Written}
 use Rattle.fields.proofs.write.Given as goal
 
-abbrev pub invariant-loop-i : goal.invariant-loop-i
-invariant-loop-i l = (l.i ≤ l.n) × (length l.body ≡ 262) × Written l.numbers l.rows l.body l.i
-
-abbrev pub decreases-loop-i : goal.decreases-loop-i
-decreases-loop-i l = l.n - l.i
+abbrev pub invariant-loop-row : goal.invariant-loop-row
+invariant-loop-row l = let i = l.row-iterator in
+    (length l.body ≡ 262) × Left i.a.rest.now i.b.rest.now × Written (rows_of l.fn.layout) l.fn.numbers l.body i.a.rest.now i.b.rest.now

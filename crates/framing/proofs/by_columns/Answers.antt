@@ -1,15 +1,9 @@
-use mathlib.Core.Path.{refl}
-use native.Mathlib.Omega.{arith}
-use Rattle.bits.proofs.Fill.{put_none, put_more, put_all}
-use Rattle.framing.specs.Grid.{by_columns}
+-- Each call gives the cell of its index. Assumes nothing.
+use Rattle.std.proofs.Common.{rules, ◌/◌, ◌%◌}
+use Rattle.framing.specs.Grid.{cell, by_columns}
+use Rattle.bits.proofs.Made.{made}
 use Rattle.framing.proofs.by_columns.Goals as goal
-
-pub loop-i-init : goal.loop-i-init
-loop-i-init c = (omega arith, put_none _ _ _)
-
-pub loop-i-preserved : goal.loop-i-preserved
-loop-i-preserved c = (omega arith, put_more _ _ _ _ _ _ _ (omega arith) (omega arith) refl c.loop-i.invariant.1)
 
 pub returns : goal.returns
 unfolding by_columns
-returns c = put_all _ _ _ _ _ refl (omega arith) c.loop-i.invariant.1
+returns c = made _ _ (λ i. cell c.args.grid (i % 8) (i / 8)) 584 (λ i y q l k. search rules) c.from_fn.result c.from_fn.ensures.items

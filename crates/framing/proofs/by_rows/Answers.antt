@@ -1,23 +1,16 @@
-use mathlib.Core.Path.{refl, sym, ◌∙◌}
+-- The sync is copied to the front, and what the grid gives row by row behind it. Assumes nothing.
+use mathlib.Core.Path.{refl, ap, ap₂, ◌≡◌, ◌∙◌}
 use mathlib.Core.List.{◌++◌}
-use native.Mathlib.Omega.{arith}
-use Rattle.bits.proofs.Fill.{put_none, put_more, put_all}
-use Rattle.bits.proofs.Build.{built}
+use Rattle.std.proofs.Common.{rules, ◌/◌, ◌%◌}
+use lib.ListN.{length}
 use Rattle.framing.specs.Sync.{eb90}
-use Rattle.framing.specs.Grid.{by_rows}
-use Rattle.framing.proofs.Grid.{sent_long, sent_sync, sent_cells}
+use Rattle.framing.specs.Grid.{cell, by_rows}
+use Rattle.bits.proofs.Made.{made, joined}
 use Rattle.framing.proofs.by_rows.Goals as goal
-use Rattle.framing.proofs.by_rows.Goals.{else-i-lt16, then-i-lt16}
-
-pub loop-i-init : goal.loop-i-init
-loop-i-init c = (omega arith, put_none _ _ _)
-
-pub loop-i-preserved : goal.loop-i-preserved
-unfolding eb90
-loop-i-preserved c = let g = c.args.grid in
-    let v = c.loop-i in
-    elim c.if-i-lt16.branch [ then-i-lt16 w ↦ (omega arith, rw w.out-is (put_more _ _ _ _ _ _ _ (omega arith) (omega arith) (sent_sync g v.i (omega arith)) v.invariant.1)) | else-i-lt16 w ↦ (omega arith, rw w.out-is (put_more _ _ _ _ _ _ _ (omega arith) (omega arith) (sent_cells g v.i (omega arith) (omega arith)) v.invariant.1)) ]
 
 pub returns : goal.returns
-returns c = put_all _ 600 _ _ _ refl (omega arith) c.loop-i.invariant.1
-    ∙ sym (built 600 _ (eb90 ++ by_rows c.args.grid) (sent_long _) (λ k h. refl))
+unfolding by_rows eb90
+returns c =
+    let s : c.copy_from_slice.new.self ≡ eb90 = search rules in
+    let e = made _ _ (λ i. cell c.args.grid (i / 73) (i % 73)) 584 (λ i y q l k. search rules) c.from_fn-symbols.result c.from_fn-symbols.ensures.items in
+    joined 16 c.copy_from_slice.new.self c.copy_from_slice-2.new.self _ 584 (ap length s) refl ∙ ap₂ ◌++◌ s (c.copy_from_slice-2.ensures.after ∙ e)

@@ -1,28 +1,31 @@
-use mathlib.Core.Path.{sym, ◌∙◌}
-use Prim.Native.Nat.{◌+◌, ◌≤◌}
+-- Too few symbols, a symbol above the top, or the sixteen of the window counted. Assumes nothing.
+use mathlib.Core.Path.{sym, ap, ◌∙◌}
+use lib.ListN.{length}
 use native.Mathlib.Omega.{arith}
-use Rattle.bits.specs.Lists.{at}
-use Rattle.framing.specs.Sync.{eb90}
-use Rattle.framing.proofs.Agreement.{too_few, passed_none, passed_like, passed_unlike, passed_all}
+use Rattle.bits.proofs.Lists.{at_most_holds}
+use Rattle.bits.proofs.Parts.{part_long}
+use Rattle.framing.specs.Sync.{judged, sync_of}
+use Rattle.framing.proofs.Agreement.{too_few, chunk_part, sync_held, sync_unclean}
 use Rattle.framing.proofs.sync.Goals as goal
-use Rattle.framing.proofs.sync.Goals.{else-bit_at-sync, then-bit_at-sync}
 
-pub returns-then-symbols-lt16 : goal.returns-then-symbols-lt16
-returns-then-symbols-lt16 c = let a = c.args in sym (too_few a.top a.symbols.now a.at (omega arith))
+pub returns-in_err-get : goal.returns-in_err-get
+returns-in_err-get c = c.from_residual.ensures ∙ sym (too_few c.args.top c.args.symbols.now c.args.at (omega (arith, c.in_err-get.ensures.lookup)))
 
-pub returns-then-symbols-at : goal.returns-then-symbols-at
-returns-then-symbols-at c = let a = c.args in sym (too_few a.top a.symbols.now a.at (omega arith))
+pub returns-in_err-window : goal.returns-in_err-window
+returns-in_err-window c = c.from_residual-in_err-window.ensures ∙ sym (too_few c.args.top c.args.symbols.now c.args.at (omega (arith, c.in_err-window.ensures.cases, c.in_ok-get.ensures.lookup)))
 
-pub loop-i-init : goal.loop-i-init
-loop-i-init c = (omega arith, omega arith, passed_none _ _ _)
-
-pub loop-i-preserved : goal.loop-i-preserved
-unfolding eb90
-loop-i-preserved c = let top = c.args.top in
-    let v = c.loop-i in
-    let low : at c.args.symbols.now (c.args.at + v.i) ≤ top = omega arith in
-    elim c.if-bit_at-sync.branch [ then-bit_at-sync w ↦ (omega arith, v.invariant.1, rw w.disagreeing-is (passed_unlike top _ _ v.i _ low (λ e. w.if-bit_at-sync.true (c.bit_at.ensures ∙ e)) v.invariant.2)) | else-bit_at-sync w ↦ (omega arith, v.invariant.1, rw w.disagreeing-is (passed_like top _ _ v.i _ low (sym c.bit_at.ensures ∙ w.if-bit_at-sync.false) v.invariant.2)) ]
+pub returns-then-not-clean : goal.returns-then-not-clean
+returns-then-not-clean c =
+    let top = c.args.top in
+    let w = c.in_ok-window.window.now in
+    let here = chunk_part c.args.symbols.now c.in_ok-get.field-0.now w c.args.at c.in_ok-get.ensures.lookup.0.2 c.in_ok-window.ensures.cases.same in
+    sym (ap (sync_of top) (sym here) ∙ sync_unclean top w (sym c.clean.ensures ∙ c.if-not-clean.true))
 
 pub returns : goal.returns
-returns c = let v = c.loop-i in
-    c.judge.ensures ∙ passed_all _ _ _ v.i _ v.invariant.1 (omega arith) v.invariant.2
+returns c =
+    let top = c.args.top in
+    let w = c.in_ok-window.window.now in
+    let here = chunk_part c.args.symbols.now c.in_ok-get.field-0.now w c.args.at c.in_ok-get.ensures.lookup.0.2 c.in_ok-window.ensures.cases.same in
+    c.judge.ensures ∙ ap judged c.disagreeing.ensures
+    ∙ sym (sync_held top w (ap length here ∙ part_long c.args.symbols.now c.args.at 16 (omega (arith, c.in_ok-window.ensures.cases.enough, c.in_ok-get.ensures.lookup))) (at_most_holds top w (sym c.clean.ensures ∙ c.if-not-clean.false)))
+    ∙ ap (sync_of top) here

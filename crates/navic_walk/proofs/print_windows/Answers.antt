@@ -1,68 +1,34 @@
 -- The walk goes forward by each window and never past the recording's end, and it closes with the number of the recording's length.
 -- Assumes nothing.
-use mathlib.Core.Path.{◌≡◌, refl, sym, ◌∙◌}
-use mathlib.Core.List.{List}
-use Prim.Native.Nat.{ℕ, ◌≤◌, ◌<◌}
-use native.Mathlib.Decide.{ℕ_discrete}
+use mathlib.Core.Path.{◌≡◌, sym, ap, ◌∙◌}
 use native.Mathlib.Omega.{arith}
-use borrow.Author.Tests.{le-leb, lt-leb}
 use lib.ListN.{length}
 use Rattle.std.specs.Prelude.{Ok, Err, OnErr}
-use Rattle.navic.specs.declared.Numbers.{Numbers}
-use Rattle.recording.specs.declared.Found.{Found}
-use Rattle.recording.specs.Walk.{found_from}
-use Rattle.recording.proofs.Search.{Outcome, too_many, window, no_more, found}
-use Rattle.navic_walk.specs.declared.Step.TheVariants.{Window, Closing}
-use Rattle.navic_walk.specs.Steps.{step_at, step_of, closing_of}
+use Rattle.recording.specs.Walk.{found_from, number_in}
+use Rattle.navic_walk.specs.Steps.{closing_of}
+use Rattle.navic_walk.proofs.Stepping.{onward, stands, closing, from_start}
 use Rattle.navic_walk.proofs.print_windows.Goals as goal
 
-module _ (l : List ℕ) (from : ℕ) where
-  closing : (n : ℕ) → step_of l from ≡ Closing n → n ≡ closing_of (length l)
-  unfolding step_of step_at closing_of
-  closing n = go (found_from l from) (found l from)
-    where
-      go : (f : Found) → Outcome l from f → step_at l f ≡ Closing n → n ≡ closing_of (length l)
-      go f (too_many h) e = rw (lt-leb _ _ h) (cc)
-      go f (window h a b w) e = absurd (let z : ◌≡◌ {A = ℕ} 0 1 = (cc) in omega arith)
-      go f (no_more h w) e = rw (le-leb _ _ h) (cc)
+pub loop-window-smaller : goal.loop-window-smaller
+loop-window-smaller g c =
+    let next = stands _ _ (onward _ _ _ (sym c.next_step.ensures.told ∙ c.in-Ok.is)) in
+    omega (arith, next, c.next_step.ensures.moved, ap length c.loop-window.invariant.0)
 
-  onward : (p after : ℕ) (line : Numbers) → step_of l from ≡ Window p after line → (from < after) × (after ≤ length l)
-  unfolding step_of step_at
-  onward p after line = go (found_from l from) (found l from)
-    where
-      go : (f : Found) → Outcome l from f → step_at l f ≡ Window p after line → (from < after) × (after ≤ length l)
-      go f (too_many h) e = absurd (let z : ◌≡◌ {A = ℕ} 0 1 = (cc) in omega arith)
-      go f (window h a b w) e = let z : f.after ≡ after = (cc) in (omega arith, omega arith)
-      go f (no_more h w) e = absurd (let z : ◌≡◌ {A = ℕ} 0 1 = (cc) in omega arith)
+pub loop-window-preserved : goal.loop-window-preserved
+loop-window-preserved g c =
+    let whole = c.loop-window.invariant.0 in
+    let is = onward _ _ _ (sym c.next_step.ensures.told ∙ c.in-Ok.is) in (
+      ap (λ r. r.now) c.next_step.ensures.kept ∙ whole,
+      omega (arith, stands _ _ is, c.next_step.ensures.moved, ap length whole),
+      λ h. from_start _ _ (rw whole at is) c.loop-window.invariant.2,
+    )
 
-  -- a window here or before is one from the start
-  any : (p after : ℕ) (line : Numbers) → step_of l from ≡ Window p after line → (0 < from → (found_from l 0).number ≡ 0) → (found_from l 0).number ≡ 0
-  unfolding step_of step_at
-  any p after line e before = elim (ℕ_discrete from 0) [
-    | yes z ↦ rw z at (here (found_from l from) (found l from) e)
-    | no n ↦ before (omega arith)
-  ]
-    where
-      here : (f : Found) → Outcome l from f → step_at l f ≡ Window p after line → f.number ≡ 0
-      here f (too_many h) e = absurd (let z : ◌≡◌ {A = ℕ} 0 1 = (cc) in omega arith)
-      here f (window h a b w) e = refl
-      here f (no_more h w) e = absurd (let z : ◌≡◌ {A = ℕ} 0 1 = (cc) in omega arith)
+pub returns-in_err-println-in-Ok-clause-err : goal.returns-in_err-println-in-Ok-clause-err
+returns-in_err-println-in-Ok-clause-err g c =
+    let is = onward _ _ _ (sym c.next_step.ensures.told ∙ c.in-Ok.is) in
+    let found = from_start _ _ (rw c.loop-window.invariant.0 at is) c.loop-window.invariant.2 in
+    elim c.from_residual.result as (λ r. OnErr r (number_in (found_from c.args.recording.now 0) ≡ 0)) [ Ok n ↦ tt | Err e ↦ found ]
 
-pub returns-in-Closing-clause-ok : goal.returns-in-Closing-clause-ok
-returns-in-Closing-clause-ok g c = closing _ _ _ (sym c.step_from-step.ensures ∙ c.in-Closing.is)
-
-pub loop-number-smaller : goal.loop-number-smaller
-loop-number-smaller g c =
-    let o = onward _ _ _ _ _ (sym c.step_from-step.ensures ∙ c.in-Window.is) in
-    omega arith
-
-pub loop-number-preserved : goal.loop-number-preserved
-loop-number-preserved g c =
-    let is = sym c.step_from-step.ensures ∙ c.in-Window.is in
-    ((onward _ _ _ _ _ is).1, λ h. any _ _ _ _ _ is c.loop-number.invariant.1)
-
-pub returns-in_err-print_window-in-Window-clause-err : goal.returns-in_err-print_window-in-Window-clause-err
-returns-in_err-print_window-in-Window-clause-err g c =
-    let found : (found_from c.args.recording.now 0).number ≡ 0 =
-    any _ _ _ _ _ (sym c.step_from-step.ensures ∙ c.in-Window.is) c.loop-number.invariant.1 in
-    elim c.from_residual.result as (λ r. OnErr r ((found_from c.args.recording.now 0).number ≡ 0)) [ Ok n ↦ tt | Err e ↦ found ]
+pub returns-in-Err-clause-ok : goal.returns-in-Err-clause-ok
+returns-in-Err-clause-ok g c =
+    c.number.ensures ∙ closing _ _ _ (sym c.next_step.ensures.told ∙ c.in-Err.is) ∙ ap (λ l. closing_of (length l)) c.loop-window.invariant.0

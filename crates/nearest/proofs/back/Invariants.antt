@@ -5,6 +5,3 @@ use Rattle.nearest.proofs.back.Given as goal
 
 abbrev pub invariant-loop-t : goal.invariant-loop-t
 invariant-loop-t l = Way l.marks l.word l.s l.t
-
-abbrev pub decreases-loop-t : goal.decreases-loop-t
-decreases-loop-t l = l.t

@@ -1,11 +1,12 @@
--- The 64 metrics, lowered one by one.
+-- The metrics so far, lowered, and the others as they were.
 -- Assumes nothing.
-use mathlib.Core.Path.{◌≡◌}
-use Prim.Native.Nat.{ℕ, ◌-◌, ◌≤◌}
-use lib.ListN.{length}
-use Rattle.bits.proofs.Fill.{Put}
+use Rattle.std.proofs.Common.{◌≡◌, ℕ, ◌-◌, ◌<◌, ◌≤◌, length}
 use Rattle.bits.specs.Lists.{at}
 use Rattle.nearest.proofs.lower.Given as goal
 
-abbrev pub invariant-loop-s : goal.invariant-loop-s
-invariant-loop-s l = (l.s ≤ 64) × (length l.initial.n ≡ 64) × Put (λ (k : ℕ). at l.m k - l.d) 0 l.s l.initial.n l.n
+abbrev pub invariant-loop-x : goal.invariant-loop-x
+invariant-loop-x l = record {
+  long : length l.x-items ≡ 64;
+  done : (s : ℕ) → s < l.x-index → at l.x-items s ≡ at l.m s - l.d;
+  rest : (s : ℕ) → l.x-index ≤ s → at l.x-items s ≡ at l.m s;
+}

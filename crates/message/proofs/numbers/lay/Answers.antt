@@ -40,7 +40,7 @@ pub loop-i-init : goal.loop-i-init
 loop-i-init c = (filled_none 0 _ 42 _ refl, λ k h. absurd (omega arith))
 
 pub loop-i-preserved : goal.loop-i-preserved
-loop-i-preserved c = let b = c.args.beside in
+loop-i-preserved c = let b = c.args.beside.now in
     let inv = c.loop-i.invariant in
     let is = taken (goal.at.loop-i-preserved c).Joined-i-lt6 in (
       filled_more 0 _ 42 _ _ _ (omega arith) (c.number.ensures.value ∙ ap (λ (f : Field). pattern (number_of b f)) is) inv.0,

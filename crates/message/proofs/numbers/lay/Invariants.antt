@@ -1,6 +1,6 @@
 -- `numbers::lay` meets its contract: the numbers before i are laid. Assumes nothing.
 use mathlib.Core.List.{◌++◌}
-use Prim.Native.Nat.{ℕ, ◌-◌, ◌<◌}
+use Prim.Native.Nat.{ℕ, ◌<◌}
 use lib.ListN.{get_or}
 use Rattle.fields.specs.Patterns.{pattern}
 use Rattle.message.specs.declared.Field.TheVariants.{Plain}
@@ -13,6 +13,3 @@ abbrev pub invariant-loop-i : goal.invariant-loop-i
 invariant-loop-i l =
     Filled 0 (λ k. pattern (number_of l.beside (get_or (l.lead ++ l.own) k (Plain 0)))) 42 l.i l.numbers
     × ((k : ℕ) → k < l.i → Good l.beside (get_or (l.lead ++ l.own) k (Plain 0)))
-
-abbrev pub decreases-loop-i : goal.decreases-loop-i
-decreases-loop-i l = 42 - l.i

@@ -1,18 +1,13 @@
-use mathlib.Core.Path.{refl}
-use native.Mathlib.Omega.{arith}
-use borrow.Author.Tests.{ne_eqb}
-use lib.ListN.{replicate}
-use Rattle.message.proofs.Filling.{filled_none, filled_more, filled_to, filled_all}
+-- `records::data_of` meets its contract: each call gives the byte of its index. Assumes nothing.
+use Rattle.std.proofs.Common.{rules, ◌+◌, ◌*◌, ◌%◌, ◌^◌}
+use mathlib.Core.Path.{ap}
+use lib.Dec.{eqb}
+use Rattle.bits.specs.Lists.{pick, at}
+use Rattle.bits.proofs.Made.{made}
+use Rattle.message.specs.declared.Beside.{Beside}
 use Rattle.message.proofs.records.data_of.Goals as goal
 
-pub loop-i-init : goal.loop-i-init
-loop-i-init c = (filled_none 0 _ 28 _ refl, omega arith)
-
-pub loop-i-preserved : goal.loop-i-preserved
-loop-i-preserved c = let not_last = ne_eqb c.loop-i.i 27 (λ e. omega arith) in
-    (filled_more 0 _ 28 _ _ _ (omega arith) (rw not_last) c.loop-i.invariant.0, omega arith)
-
 pub returns : goal.returns
-returns c = let most = filled_to 0 _ 28 c.loop-i.i 27 _ (omega arith) c.loop-i.invariant.0 in
-    let bits = filled_all _ 28 28 _ (omega arith) (filled_more 0 _ 28 27 _ _ (omega arith) refl most) in
-    λ i. record { bits = bits i; givei = replicate 15 0; givd = replicate 15 0 }
+returns c = let t = c.args.t.now.0.now in
+    let bits = made _ _ (λ i. pick (eqb i 27) (at t 34 % 2 ^ 4 * 16) (at t (7 + i) % 2 ^ 8)) 28 (λ i y q l k. search rules) c.from_fn.result c.from_fn.ensures.items in
+    λ i. record { bits = bits i; pairs = ap (λ (b : Beside). b.pairs) c.nothing.ensures i }

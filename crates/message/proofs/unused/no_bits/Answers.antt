@@ -1,11 +1,7 @@
 -- `unused::no_bits` meets its contract. Assumes nothing.
-use mathlib.Core.Path.{◌≡◌}
-use borrow.Author.Tests.{eq-eqb}
-use lib.ListN.{length}
-use borrow.Author.Rules.{rules}
+use mathlib.Core.Path.{◌∙◌}
+use Rattle.message.proofs.Zeros.{zeros_same}
 use Rattle.message.proofs.unused.no_bits.Goals as goal
 
 pub returns : goal.returns
-returns c = let l = c.args.beside.bits in
-    let long : length l ≡ 28 = search rules in
-    rw (eq-eqb (length l) 28 long) c.zero_bytes.ensures
+returns c = c.eq.ensures ∙ zeros_same 28 _

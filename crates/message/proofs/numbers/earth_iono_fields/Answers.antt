@@ -1,8 +1,0 @@
--- `numbers::earth_iono_fields` meets its contract: each signed field fits its type, so it is kept. Assumes nothing.
-use Rattle.message.specs.Numbers.{earth_iono_fields}
-use Rattle.message.proofs.Kept.{message_kept}
-use Rattle.message.proofs.numbers.earth_iono_fields.Goals as goal
-
-pub returns : goal.returns
-returns c = let x = c.args.c in
-    message_kept 11 (earth_iono_fields x) x.prn c.struct_told-14-1.given.1.1

@@ -1,8 +1,0 @@
--- `numbers::time_offsets_fields` meets its contract: each signed field fits its type, so it is kept. Assumes nothing.
-use Rattle.message.specs.Numbers.{time_offsets_fields}
-use Rattle.message.proofs.Kept.{message_kept}
-use Rattle.message.proofs.numbers.time_offsets_fields.Goals as goal
-
-pub returns : goal.returns
-returns c = let x = c.args.c in
-    message_kept c.args.id (time_offsets_fields x) x.prn c.struct_told-8-1.given.1.1

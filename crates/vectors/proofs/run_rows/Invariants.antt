@@ -1,5 +1,0 @@
--- The turns that are left fall.
-use Rattle.vectors.proofs.run_rows.Given as goal
-
-abbrev pub decreases-loop-turns : goal.decreases-loop-turns
-decreases-loop-turns g l = l.turns
