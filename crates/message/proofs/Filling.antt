@@ -6,8 +6,6 @@ use native.Mathlib.Omega.{arith}
 use borrow.Author.Count.{below_more}
 use lib.ListN.{length, get_or, set, length-set}
 use lib.Seq.{get_or-set_same, get_or-set_other, ext_get_or}
-use Rattle.bits.specs.Lists.{build}
-use Rattle.bits.proofs.Build.{built}
 use Rattle.message.specs.Numbers.{list_of}
 
 -- the first i of the n elements of l are those of f
@@ -26,13 +24,6 @@ filled_more d f n i l a h e w =
           below_more (λ (k : ℕ). get_or (set l i a) k d ≡ f k) i (λ k lt. get_or-set_other l i k a d (λ z. omega arith) ∙ w.here k lt)
           (get_or-set_same l i a d (omega (arith, w.long)) ∙ e);
     }
-
-pub filled_to : {A : Type 0} (d : A) (f : ℕ → A) (n i m : ℕ) (l : List A) → i ≡ m → Filled d f n i l → Filled d f n m l
-filled_to d f n i m l e w = record { long = w.long; here = λ k h. w.here k (omega arith) }
-
--- all of a list of numbers
-pub filled_all : (f : ℕ → ℕ) (n i : ℕ) (l : List ℕ) → n ≤ i → Filled 0 f n i l → l ≡ build n f
-filled_all f n i l h w = built n f l w.long (λ k lt. w.here k (omega arith))
 
 -- a list that is told by its elements: how long it is, and what stands at a place
 list_long : {A : Type 0} (n : ℕ) (f : ℕ → A) → length (list_of n f) ≡ n

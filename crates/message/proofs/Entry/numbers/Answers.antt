@@ -1,4 +1,4 @@
--- `table_numbers` meets its contract. Assumes nothing.
+-- `Entry::numbers` meets its contract. Assumes nothing.
 use Rattle.message.proofs.Laying.{laid_patterns}
 use Rattle.message.proofs.Entry.numbers.Goals as goal
 
