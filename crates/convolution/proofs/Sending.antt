@@ -77,10 +77,9 @@ pub record Sent (w old new : List ℕ) (register i : ℕ) : Type 0 where
 pub sent_none : (w l : List ℕ) → Sent w l l 0 0
 sent_none w l = record { holds = refl; put = put_none (ago (coded_form w)) 0 l }
 
-module _ {w old new : List ℕ} {r r' i t : ℕ} (long : length w ≡ 286) (h : i < 292) (is : t ≡ ago w i % 2) (next : r' ≡ r / 2 + 64 * t)
-    (v : Sent w old new r i) where
+module _ {w old new : List ℕ} {r r' i t : ℕ} (h : i < length w + 6) (is : t ≡ ago w i % 2) (next : r' ≡ r / 2 + 64 * t) (v : Sent w old new r i) where
   holds : Holds (past w (suc i)) r'
-  holds = rw (past_more w i (omega arith)) (omega (arith, v.holds))
+  holds = rw (past_more w i h) (omega (arith, v.holds))
 
   symbols : (count_ones (bit_and r' 121) % 2 ≡ ago (coded_form w) (2 * i)) × (count_ones (bit_and r' 91) % 2 ≡ ago (coded_form w) (2 * i + 1))
   unfolding coded_form g1 g2
@@ -91,7 +90,7 @@ module _ {w old new : List ℕ} {r r' i t : ℕ} (long : length w ≡ 286) (h : 
         rw holds (symbol2 (ago x 0) (ago x 1) (ago x 2) (ago x 3) (ago x 4) (ago x 5) (ago x 6) ∙ sym g.1),
       )
 
-  pub sent_more : {x y : ℕ} → x ≡ count_ones (bit_and r' 121) % 2 → y ≡ count_ones (bit_and r' 91) % 2 → length old ≡ 584
+  pub sent_more : {x y : ℕ} → x ≡ count_ones (bit_and r' 121) % 2 → y ≡ count_ones (bit_and r' 91) % 2 → length old ≡ 2 * (length w + 6)
       → Sent w old (set (set new (2 * i) x) (2 * i + 1) y) r' (i + 1)
   sent_more {x} {y} p q l =
       record {
@@ -99,6 +98,6 @@ module _ {w old new : List ℕ} {r r' i t : ℕ} (long : length w ≡ 286) (h : 
         put = put_two (ago (coded_form w)) i x y old new (omega arith) (p ∙ symbols.0) (q ∙ symbols.1) v.put;
       }
 
-pub sent_all : {w old new : List ℕ} {r i : ℕ} → length w ≡ 286 → length old ≡ 584 → i ≡ 292 → Sent w old new r i → new ≡ coded_form w
-sent_all {w} {new = new} long l q v =
-    ext_get_or 0 new (coded_form w) (v.put.long ∙ l ∙ omega (arith, coded_long w)) (λ k h. v.put.here k k (omega (arith, v.put.long)) (omega arith))
+pub sent_all : {w old new : List ℕ} {r i : ℕ} → length old ≡ 2 * (length w + 6) → i ≡ length w + 6 → Sent w old new r i → new ≡ coded_form w
+sent_all {w} {new = new} l q v =
+    ext_get_or 0 new (coded_form w) (v.put.long ∙ l ∙ sym (coded_long w)) (λ k h. v.put.here k k (omega (arith, v.put.long)) (omega arith))

@@ -4,11 +4,11 @@ use mathlib.Core.Path.{◌≡◌, refl, sym, ap, ap₂, subst, ◌∙◌}
 use mathlib.Core.List.{List, [], ◌∷◌, ◌++◌, map, map-append, map-map, append_assoc, append-nil}
 use Prim.Native.Nat.{ℕ, suc, ◌+◌, ◌-◌, ◌≤◌, ◌<◌}
 use mathlib.Core.Logic.{◌⊎◌, inl, inr}
-use native.Mathlib.Nat.{zero-add}
+use native.Mathlib.Nat.{add-zero, zero-add}
 use native.Mathlib.Numerals.{add-one}
 use native.Mathlib.Omega.{arith}
 use lib.ListN.{length, get_or, set, take, drop, replicate, length-append, length-drop, length-map}
-use lib.Seq.{take-suc, set_at, length-take-le, take-length}
+use lib.Seq.{take-suc, set_at, length-take-le, take-length, get_or-drop, drop-cons, drop-drop}
 use Rattle.bits.proofs.Numbers.{bits_long}
 use borrow.Rule.Slice.PartMut.{put_mid}
 use Rattle.std.proofs.lemmas.Slice.{take-put_mid}
@@ -132,11 +132,20 @@ write_all all numbers body rows ns l e w =
     let v : Written all numbers body [] ns = subst (λ (rs : List Row). Written all numbers body rs ns) e w in
     sym (v ∙ append-nil (take 262 body) ∙ (ap (λ (k : ℕ). take k body) (sym l) ∙ take-length body))
 
--- ---- the range check
-pub fault_turn : (rs : List Row) (ms : List ℕ) {r : Row} {rows : List Row} {n : ℕ} {ns : List ℕ} (b : Bool) → (rs ≡ r ∷ rows) × (ms ≡ n ∷ ns) → fits r n ≡ b
-    → pattern_fault rs ms ≡ pick b (pattern_fault rows ns) (first r)
+-- ---- the range check: the fault is one of the rows that are left
+pub fault_turn : (rs : List Row) (ns : List ℕ) (i : ℕ) (b : Bool) → i < length rs → fits (get_or rs i no_row) (get_or ns i 0) ≡ b
+    → pattern_fault (drop i rs) (drop i ns) ≡ pick b (pattern_fault (drop (i + 1) rs) (drop (i + 1) ns)) (first (get_or rs i no_row))
 unfolding pattern_fault
-fault_turn rs ms {r} {rows} {n} {ns} b e f = rw (e.0, e.1) (ap (λ (t : Bool). pick t (pattern_fault rows ns) (first r)) f)
+fault_turn rs ns i b h e =
+    let f : get_or (drop i ns) 0 0 ≡ get_or ns i 0 = get_or-drop i ns 0 0 ∙ ap (λ (k : ℕ). get_or ns k 0) (add-zero i) in
+    let d : drop i rs ≡ get_or rs i no_row ∷ drop (i + 1) rs = rw (add-one, drop-cons rs i no_row h) in
+    ap (λ (l : List Row). pattern_fault l (drop i ns)) d
+    ∙ (λ j. pick ((ap (fits (get_or rs i no_row)) f ∙ e) j) (pattern_fault (drop (i + 1) rs) (drop-drop 1 i ns j)) (first (get_or rs i no_row)))
+
+-- where a row and a number are taken
+pub fault_taken : (rs : List Row) (ms : List ℕ) {r : Row} {rows : List Row} {n : ℕ} {ns : List ℕ} (b : Bool) → (rs ≡ r ∷ rows) × (ms ≡ n ∷ ns) → fits r n ≡ b
+    → pattern_fault rs ms ≡ pick b (pattern_fault rows ns) (first r)
+fault_taken rs ms {r} {rows} {n} {ns} b e f = rw (e.0, e.1) (fault_turn (r ∷ rows) (n ∷ ns) 0 b (omega arith) f)
 
 pub fault_none : (rows : List Row) (ns : List ℕ) → rows ≡ [] → pattern_fault rows ns ≡ 0
 unfolding pattern_fault

@@ -1,5 +1,5 @@
 -- How the code carries a field's number: as a pattern of 64 bits, of a negative number its two's complement.
--- Only the calls of this crate, `Entry::numbers` of crate message and `numbers_after` of crate navic_c cite it; `packed_body` and `pattern_fault_lem` (Held) and
+-- Of public calls only this crate's, `Entry::numbers` and `Entry::fault` of crate message and, by `numbers_after`, `navic_read` of crate navic_c cite it; `packed_body`, `pattern_fault_lem` (Held) and
 -- `seen` (crate navic_c) tie it to the numbers, of which every other contract speaks. Assumes nothing.
 use Rattle.std.specs.Prelude.{Bool, true, false, Option, None, Some, List, [], ◌∷◌, ◌++◌, map, ℕ, ◌-◌, ◌^◌, eqb, ltb, leb, ℤ, pos, length, get_or, drop, replicate}
 use Rattle.std.specs.Int.{w64}

@@ -26,8 +26,9 @@ pub struct Received {
     pub agrees: bool,
 }
 
-// The nearest word once the polarity is known.
+// The nearest word once the polarity is known. Never inlined, so that the decoder's arrays take stack only where there is something to decode.
 #[tactic(auto, using(crate::proofs::Outcomes::none_told, crate::proofs::Outcomes::nearest_told))]
+#[inline(never)]
 fn nearest_word(symbols: &[u8; 600], turned_over: bool) -> Result<Received, LinkRefusal>
     requires { Bits (coded_of 1 turned_over symbols.now) }
     ensures { result ≡ nearest_of 1 turned_over symbols.now }

@@ -30,7 +30,7 @@ list_long : {A : Type 0} (n : ℕ) (f : ℕ → A) → length (list_of n f) ≡ 
 list_long zero f = refl
 list_long (suc n) f = ap suc (list_long n (λ i. f (suc i)))
 
-list_at : {A : Type 0} (n : ℕ) (f : ℕ → A) (k : ℕ) (d : A) → k < n → get_or (list_of n f) k d ≡ f k
+pub list_at : {A : Type 0} (n : ℕ) (f : ℕ → A) (k : ℕ) (d : A) → k < n → get_or (list_of n f) k d ≡ f k
 list_at zero f k d h = absurd (omega arith)
 list_at (suc n) f zero d h = refl
 list_at (suc n) f (suc k) d h = list_at n (λ i. f (suc i)) k d (omega arith)

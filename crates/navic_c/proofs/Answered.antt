@@ -78,17 +78,18 @@ module _ (zs : List ℤ) (lent : List ℕ) where
       unfolding writing_of write_into
       put sent is e = rw (le-leb 600 (length lent) enough, eq-eqb (refusal zs) 0 (sym number ∙ ap written_number is)) (ap (λ (l : List ℕ). l ++ drop 600 lent) e)
 
-module _ (ns lent : List ℕ) (enough : 600 ≤ length lent) (h : length ns ≡ 42 → ⊥) where
-  no_42 : length (int64 ns) ≡ 42 → ⊥
-  no_42 e = h (sym (length-map ns (to_z w64)) ∙ e)
+    module _ (h : length zs ≡ 42 → ⊥) where
+      pub other_count : written_as (Err why.Count) ≡ written_of zs (length lent)
+      unfolding written_of writing_of refusal
+      other_count = rw (le-leb 600 (length lent) enough, ne_eqb (length zs) 42 h) refl
 
-  pub other_count : written_as (Err why.Count) ≡ written_of (int64 ns) (length lent)
-  unfolding written_of writing_of refusal
-  other_count = rw (le-leb 600 (length lent) enough, ne_eqb (length (int64 ns)) 42 no_42) refl
+      pub other_count_after : lent ≡ write_into numbered zs lent
+      unfolding writing_of write_into refusal
+      other_count_after = rw (le-leb 600 (length lent) enough, ne_eqb (length zs) 42 h) refl
 
-  pub other_count_after : lent ≡ write_into numbered (int64 ns) lent
-  unfolding writing_of write_into refusal
-  other_count_after = rw (le-leb 600 (length lent) enough, ne_eqb (length (int64 ns)) 42 no_42) refl
+-- numbers as C has them are as many as they are here
+pub no_42 : (ns : List ℕ) → (length ns ≡ 42 → ⊥) → length (int64 ns) ≡ 42 → ⊥
+no_42 ns h e = h (sym (length-map ns (to_z w64)) ∙ e)
 
 -- ---- the reader, lent too few numbers
 module _ (s word ns : List ℕ) where

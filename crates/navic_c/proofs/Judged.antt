@@ -52,17 +52,17 @@ module _ (ns : List ℕ) (w : Words ns) {l : Layout} (laid : l ≡ layout_in (in
     unfolding fault_from
     field_fault = rw (ne_eqb (fault_in (rows_in zs) zs) 0 not_0) (sym is ∙ fields_told)
 
-    -- numbers with a field at fault are no record's
-    pub unfit : None ≡ record_in zs
-    unfolding record_in fitting
+    -- numbers with a field at fault don't fit
+    pub unfit : false ≡ fitting zs
+    unfolding fitting
     unfit = rw (forty_two ns w, ne_eqb (fault_in (rows_in zs) zs) 0 not_0) refl
 
   module _ (is : y ≡ None) where
     none : fault_in (rows_in zs) zs ≡ 0
     none = unless_none _ (sym fields_told ∙ is)
 
-    pub fit : Some (record_of zs) ≡ record_in zs
-    unfolding record_in fitting
+    pub fit : true ≡ fitting zs
+    unfolding fitting
     fit = rw (forty_two ns w, eq-eqb (fault_in (rows_in zs) zs) 0 none) refl
 
     -- and the numbers behind them
@@ -105,6 +105,14 @@ module _ (ns : List ℕ) (w : Words ns) where
       refuses_none e = rw (forty_two ns w, i, l, eq-eqb (fault_from (int64 ns)) 0 (unless_none _ (sym e))) refl
 
 -- ---- the record of numbers
+pub unfitted : (zs : List ℤ) → fitting zs ≡ false → None ≡ record_in zs
+unfolding record_in
+unfitted zs e = rw e refl
+
+pub fitted : (zs : List ℤ) → fitting zs ≡ true → Some (record_of zs) ≡ record_in zs
+unfolding record_in
+fitted zs e = rw e refl
+
 pub not_42 : (ns : List ℕ) → (length ns ≡ 42 → ⊥) → None ≡ record_in (int64 ns)
 unfolding record_in fitting
 not_42 ns h = rw (ne_eqb (length (int64 ns)) 42 (λ e. h (sym (length-map ns (to_z w64)) ∙ e))) refl

@@ -7,7 +7,7 @@ ghost use Rattle.demands.specs.Family.{symbols_of, write_into};
 ghost use Rattle.fields.specs.Patterns.{unless_0};
 ghost use Rattle.message.specs.Numbers.{nat};
 ghost use Rattle.navic_c.specs.Numbers.{layout_in, id_above, untimely, fault_from, body_from, numbered};
-ghost use Rattle.navic_c.specs.Calls.{int64, Words, record_in, written_as, judged_as, judged_of, written_of};
+ghost use Rattle.navic_c.specs.Calls.{int64, Words, fitting, record_of, record_in, written_as, judged_as, judged_of, written_of};
 
 use crate::Refusal;
 use fields::Layout;
@@ -112,6 +112,22 @@ impl Given {
         fields::write(self.layout(), self.numbers)
     }
 
+    // Whether each is within its field.
+    #[tactic(auto, using(crate::proofs::Judged::unfit, crate::proofs::Judged::fit))]
+    pub fn fits(&self) -> bool
+        ensures { result ≡ fitting (int64 self.now.numbers) }
+    {
+        fields::fault(self.layout(), self.numbers).is_none()
+    }
+
+    // The record that they say.
+    #[tactic(auto, unfolding(crate::specs::Calls::record_of))]
+    pub fn record(&self) -> Record
+        ensures { result ≡ record_of (int64 self.now.numbers) }
+    {
+        Entry::parse(&self.body()).record
+    }
+
     // Their 600 upright symbols.
     #[tactic(auto, unfolding(demands::specs::Family::symbols_of))]
     fn symbols(&self) -> [u8; 600]
@@ -122,19 +138,19 @@ impl Given {
 }
 
 // The record of numbers; None unless there are 42, each within its field.
-#[tactic(auto, using(crate::proofs::Judged::not_42))]
+#[tactic(auto, using(crate::proofs::Judged::not_42, crate::proofs::Judged::unfitted, crate::proofs::Judged::fitted))]
 pub fn record(numbers: &[u64]) -> Option<Record>
     ensures { result ≡ record_in (int64 numbers.now) }
 {
     let given = Given::of(numbers)?;
-    match fields::fault(given.layout(), given.numbers) {
-        Some(_) => None,
-        None => Some(Entry::parse(&given.body()).record),
+    if !given.fits() {
+        return None;
     }
+    Some(given.record())
 }
 
 // Writes a record as 600 upright symbols. What is lent beyond them stays, and all of it beside a refusal.
-#[tactic(auto, using(crate::proofs::Answered::too_little, crate::proofs::Answered::too_little_after, crate::proofs::Answered::other_count, crate::proofs::Answered::other_count_after, crate::proofs::Answered::symbols_600, crate::proofs::Answered::answers, crate::proofs::Answered::put))]
+#[tactic(auto, using(crate::proofs::Answered::too_little, crate::proofs::Answered::too_little_after, crate::proofs::Answered::other_count, crate::proofs::Answered::other_count_after, crate::proofs::Answered::no_42, crate::proofs::Answered::symbols_600, crate::proofs::Answered::answers, crate::proofs::Answered::put))]
 pub fn write(numbers: &[u64], symbols: &mut [u8]) -> Result<(), Refusal>
     ensures value { written_as result ≡ written_of (int64 numbers.now) (length symbols.old) }
     ensures symbols_after { symbols.new ≡ write_into numbered (int64 numbers.now) symbols.old }

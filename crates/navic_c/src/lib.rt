@@ -10,6 +10,7 @@ ghost use Rattle.navic_c.specs.declared.Refusal.TheVariants.{Record};
 ghost use Rattle.navic_c.specs.Calls.{int64, read_from, line_of_numbers, word_after, numbers_after, written_as, written_of, pair_in, paired_as, paired_of, idle_of_numbers, found_as, began_as, began_from, counted_as, counted_from, decoded_as, nearest_answer, nearest_into};
 
 use ephemeris::Ephemeris;
+use given::Given;
 use navic::{Numbers, WriteRefusal};
 use recording::{FoundWindow, WalkRefusal};
 use weektime::{SecondOfWeek, Towc};
@@ -211,13 +212,18 @@ pub extern "C" fn navic_write(numbers: &[u64], symbols: &mut [u8]) -> Written
     Written::from(given::write(numbers, symbols))
 }
 
-// The ephemeris of the numbers of subframe 1 and of subframe 2, if each fits and they pair. (By not_42 the edit second_not_tested fails at what is
-// answered, and not at a list that is not of 42.)
-#[tactic(auto, using(crate::proofs::Judged::not_42, crate::proofs::Answered::first_unfit, crate::proofs::Answered::second_unfit, crate::proofs::Answered::pair_told))]
+// The ephemeris of the numbers of subframe 1 and of subframe 2, if each fits and they pair.
+#[tactic(auto, using(crate::proofs::Judged::not_42, crate::proofs::Judged::unfitted, crate::proofs::Judged::fitted, crate::proofs::Answered::first_unfit, crate::proofs::Answered::second_unfit, crate::proofs::Answered::pair_told))]
 fn pair(first: &[u64], second: &[u64]) -> Option<Ephemeris>
     ensures { result ≡ pair_in (int64 first.now) (int64 second.now) }
 {
-    ephemeris::pair(given::record(first)?, given::record(second)?)
+    let first = Given::of(first)?;
+    let second = Given::of(second)?;
+    // Both are tested before a record is made of either.
+    if !(first.fits() && second.fits()) {
+        return None;
+    }
+    ephemeris::pair(first.record(), second.record())
 }
 
 // The ephemeris of the numbers of subframe 1 and of subframe 2.

@@ -3,16 +3,20 @@
 use mathlib.Core.Path.{◌≡◌, refl, sym, ap, ◌∙◌}
 use mathlib.Core.Logic.{inl, inr, ⊎_elim}
 use mathlib.Core.Bool.{Bool, true, false}
-use mathlib.Core.List.{List}
+use mathlib.Core.List.{List, [], ◌∷◌}
 use Prim.Native.Nat.{ℕ, zero, suc, ◌+◌, ◌-◌, ◌≤◌, ◌<◌}
 use native.Mathlib.Decide.{ℕ_discrete, dec_le}
+use native.Mathlib.Nat.{add-zero}
 use native.Mathlib.Omega.{arith}
 use lib.ListN.{length}
 use borrow.Author.Tests.{le-leb, lt-leb, lt-ltb, le-ltb}
 use Rattle.std.specs.Prelude.{Option, Some, None, Ok, Err}
 use Rattle.std.specs.Option.{MatchOption, ok_or}
-use Rattle.bits.specs.Lists.{pick, part}
+use Rattle.bits.specs.Lists.{at, pick, part, at_most}
+use Rattle.bits.proofs.Lists.{at_most_false}
+use Rattle.bits.proofs.Parts.{part_at}
 use Rattle.framing.specs.Sync.{sync_of}
+use Rattle.framing.proofs.Agreement.{sync_unclean}
 use Rattle.recording.specs.declared.WalkRefusal.{WalkRefusal}
 use Rattle.recording.specs.declared.WalkRefusal.TheVariants.{TooLong, NoWindow}
 use Rattle.recording.specs.Walk.{held, window_at, First, search, first_from, Found, found_at, found_from, number_in, start_in, after_in}
@@ -150,6 +154,14 @@ module _ (l : List ℕ) where
 
   abbrev pub Free : ℕ → Type 0
   Free k = held (sync_of 1 (part l k 16)) ≡ false
+
+  -- it holds at none whose first symbol is above 1
+  pub first_above : (k : ℕ) → 1 < at l k → Free k
+  first_above k h = ap held (sync_unclean 1 (part l k 16) (go (part l k 16) (rw (part_at l k 16 0 (omega arith), add-zero k) h)))
+    where
+      go : (s : List ℕ) → 1 < at s 0 → at_most 1 s ≡ false
+      go [] z = absurd (omega arith)
+      go (b ∷ s) z = at_most_false 1 (b ∷ s) 0 (omega arith) z
 
   free_behind : (from end : ℕ) → end ≡ length l - 599 → ((k : ℕ) → from ≤ k → k < end → Free k) → (k : ℕ) → from ≤ k → window_at l k ≡ false
   free_behind from end last h k a = elim (dec_le (k + 600) (length l)) [

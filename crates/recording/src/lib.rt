@@ -2,7 +2,9 @@
 #![tactic(auto)]
 
 ghost use Rattle.std.specs.Prelude.{◌≡◌, ◌≤◌, Err, length};
-ghost use Rattle.recording.specs.Walk.{found_from, number_in, start_in, after_in, PartOf, HandedOn};
+ghost use Rattle.bits.specs.Lists.{part};
+ghost use Rattle.framing.specs.Sync.{sync_of};
+ghost use Rattle.recording.specs.Walk.{held, found_from, number_in, start_in, after_in, PartOf, HandedOn};
 
 // The most symbols of a recording.
 pub const LONGEST: usize = 65536;
@@ -43,6 +45,17 @@ impl WalkRefusal {
     }
 }
 
+// Whether the sync rule holds at a place. The first symbol is told before the rule, which goes over all sixteen, so that symbols above 1 are soon passed.
+#[tactic(auto, using(crate::proofs::Search::first_above))]
+fn holds(recording: &[u8], place: usize) -> bool
+    ensures { result ≡ held (sync_of 1 (part recording.now place 16)) }
+{
+    match recording.get(place) {
+        Some(&level) if level > 1 => false,
+        _ => framing::sync(1, recording, place).is_some(),
+    }
+}
+
 // The first window at or after a place.
 #[tactic(auto, using(crate::proofs::Search::found_refused, crate::proofs::Search::found_none, crate::proofs::Search::first_none))]
 pub fn find(recording: &[u8], from: usize) -> Result<FoundWindow, WalkRefusal>
@@ -54,7 +67,7 @@ pub fn find(recording: &[u8], from: usize) -> Result<FoundWindow, WalkRefusal>
     }
     // 600 symbols remain at each of these places
     let start = (from..end.saturating_sub(599))
-        .find(|&start| framing::sync(1, recording, start).is_some())
+        .find(|&start| holds(recording, start))
         .ok_or(WalkRefusal::NoWindow { end })?;
     Ok(FoundWindow {
         start,

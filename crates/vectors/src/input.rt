@@ -38,7 +38,7 @@ impl Input {
     // Takes the piece of a row; at the last one tells how the input came out, and the next begins with nothing counted.
     pub fn take(&mut self, row: &[u8]) -> Outcome {
         self.count = navic::input::gather(&mut self.kept, self.count, piece(row));
-        if !Columns::of(row, LAST).flag(0) {
+        if Columns::of(row, LAST).number(0) == 0 {
             return Outcome::Unfinished;
         }
         let line = navic::input::line(&self.kept, self.count);

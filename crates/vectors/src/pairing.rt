@@ -60,7 +60,7 @@ fn same_numbers(numbers: [f64; 26], row: Columns) -> bool {
 
 // Tells how a row came out; one that no records can hold is skipped.
 pub fn run(row: &[u8]) -> Outcome {
-    if !Columns::of(row, RUN).flag(0) {
+    if Columns::of(row, RUN).number(0) == 0 {
         return Outcome::Skipped;
     }
     // As the rows have an answer: its number, and the ephemeris or +0 throughout.

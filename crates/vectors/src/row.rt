@@ -64,8 +64,12 @@ impl<'a> Columns<'a> {
         (self.number(k) & 0xffff_ffff) as u32
     }
 
+    // The same by its sign and its lowest 31 bits.
     pub fn signed(self, k: usize) -> i32 {
-        self.plain(k).cast_signed()
+        let n = self.number(k);
+        let sign = (n >> 63) as u32;
+        let low = (n & 0x7fff_ffff) as u32;
+        (sign << 31 | low).cast_signed()
     }
 
     pub fn flag(self, k: usize) -> bool {

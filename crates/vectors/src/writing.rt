@@ -41,7 +41,7 @@ fn lent_bytes(row: &[u8]) -> [u8; MOST] {
 }
 
 pub fn run(row: &[u8]) -> Outcome {
-    if !Columns::of(row, RUN).flag(0) {
+    if Columns::of(row, RUN).number(0) == 0 {
         return Outcome::Skipped;
     }
     let mut bytes = [LENT_AS; MOST];

@@ -5,7 +5,7 @@ use Rattle.std.proofs.lemmas.Slice.Zip.{either_empty_from_Zip}
 use Rattle.fields.specs.Patterns.{pattern_fault, unless_0}
 use Rattle.fields.specs.Table.{first, rows_of}
 use Rattle.fields.proofs.Faults.{unless_all, unless_above}
-use Rattle.fields.proofs.Turns.{all_left, left_taken, next_left, row_within, no_row_left, fault_turn, fault_none}
+use Rattle.fields.proofs.Turns.{all_left, left_taken, next_left, row_within, no_row_left, fault_taken, fault_none}
 use Rattle.fields.proofs.fault.Goals as goal
 
 pub loop-row-init : goal.loop-row-init
@@ -22,13 +22,13 @@ pub loop-row-preserved : goal.loop-row-preserved
 loop-row-preserved c = let v = c.loop-row in
     let i = v.row-iterator in
     let s = c.in-Some.ensures.steps in
-    (next_left (left_taken s v.invariant.0), v.invariant.1 ∙ fault_turn i.a.rest.now i.b.rest.now true s (sym c.holds.ensures ∙ c.if-not-holds.false))
+    (next_left (left_taken s v.invariant.0), v.invariant.1 ∙ fault_taken i.a.rest.now i.b.rest.now true s (sym c.holds.ensures ∙ c.if-not-holds.false))
 
 pub returns-then-not-holds : goal.returns-then-not-holds
 returns-then-not-holds c = let v = c.loop-row in
     let i = v.row-iterator in
     let s = c.in-Some.ensures.steps in
-    let e = v.invariant.1 ∙ fault_turn i.a.rest.now i.b.rest.now false s (sym c.holds.ensures ∙ c.if-not-holds.true) in
+    let e = v.invariant.1 ∙ fault_taken i.a.rest.now i.b.rest.now false s (sym c.holds.ensures ∙ c.if-not-holds.true) in
     sym (ap unless_0 e ∙ unless_above (first c.in-Some.row.now) (row_within (left_taken s v.invariant.0)).0)
 
 pub returns : goal.returns
